@@ -1,0 +1,61 @@
+-- The grammar of commands. A line is split at every space, and neighbouring spaces make an empty word.
+-- The words are tested in this order: the command and the number of words, the collection, the id or
+-- the number, the object. The first that fails is named.
+use Rattle.std.specs.Prelude.{ℕ, ◌==◌, List, [], ◌∷◌, Option, Some, None, Result, Ok, Err, codes, if◌then◌else◌}
+use Rattle.std.specs.List.{slice_split}
+use Rattle.std.specs.Str.{bytes_eq}
+use Rattle.metrics_builtin.specs.declared.Space.{Space}
+use Rattle.spb_defs.specs.declared.Command.{Command}
+use Rattle.spb_defs.specs.declared.Command.TheVariants.{Add, Range}
+use Rattle.spb_defs.specs.declared.What.{What}
+use Rattle.spb_defs.specs.declared.What.TheVariants as what
+use Rattle.spb_defs.specs.Numbers.{number_within}
+use Rattle.spb_defs.specs.ObjectText.{object_of}
+
+-- what is read goes on, and the first failure stands
+infixl 10 ◌>>=◌
+abbrev pub ◌>>=◌ : {A B : Type 0} → Result A What → (A → Result B What) → Result B What
+(Ok x) >>= f = f x
+(Err e) >>= f = Err e
+
+-- what was read, or what failed
+abbrev pub or_bad : {A : Type 0} → What → Option A → Result A What
+or_bad failed None = Err failed
+or_bad failed (Some x) = Ok x
+
+abbrev pub collection_in : List ℕ → Result ℕ What
+collection_in word = or_bad what.Collection (number_within 3 word)
+
+abbrev pub id_in : List ℕ → Result ℕ What
+id_in word = or_bad what.Id (number_within 4294967295 word)
+
+abbrev pub radius_in : List ℕ → Result ℕ What
+radius_in word = or_bad what.Number (number_within 4294967295 word)
+
+abbrev pub object_in : Space → List ℕ → Result (List ℕ) What
+object_in space word = or_bad what.Object (object_of space word)
+
+unfoldable pub add_in : Space → List ℕ → List ℕ → List ℕ → Result Command What
+add_in space collection id object = do
+  c ← collection_in collection
+  i ← id_in id
+  o ← object_in space object
+  Ok (Add c i o)
+
+unfoldable pub range_in : Space → List ℕ → List ℕ → List ℕ → Result Command What
+range_in space collection radius object = do
+  c ← collection_in collection
+  r ← radius_in radius
+  o ← object_in space object
+  Ok (Range c r o)
+
+-- the command that the words are
+abbrev pub command_in : Space → List (List ℕ) → Result Command What
+command_in space (name ∷ first ∷ second ∷ third ∷ []) =
+    if bytes_eq name (codes "add") then add_in space first second third
+    else (if bytes_eq name (codes "range") then range_in space first second third else Err what.Command)
+command_in space _ = Err what.Command
+
+-- the command that the line is, or what fails first in it
+unfoldable pub command_of : Space → List ℕ → Result Command What
+command_of space line = command_in space (slice_split (λ b. b == 32) line)

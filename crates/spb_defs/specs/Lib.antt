@@ -1,0 +1,15 @@
+pub mod Pivots
+pub mod Scans
+pub mod State
+pub mod Numbers
+pub mod ObjectText
+pub mod Grammar
+pub mod ReplyText
+pub mod Step
+pub mod Play
+pub mod Words
+pub mod Rows
+pub use Rattle.spb_edge.specs.Told
+pub use Rattle.spb_edge.specs.Lines
+pub use Rattle.metrics_builtin.specs.Space
+pub use Rattle.metrics_builtin.specs.Vectors

@@ -1,0 +1,15 @@
+-- Pieces that go out one after the other.
+use Rattle.std.proofs.Common.{◌≡◌, ℕ, ◌+◌, List, length, take, drop, ◌++◌, Option, refl, sym, ap, ◌∙◌, arith}
+use Rattle.std.specs.List.{between}
+use Rattle.std.proofs.lemmas.Slice.{between_to_end}
+use Rattle.std.proofs.Math.Seq.{take-add}
+use Rattle.spb_edge.specs.Told.{told_then, told_then-append}
+
+-- what was told, then a front of the bytes, then the first of those behind it
+pub told_then-more : (first now last : Option (List ℕ)) (bytes : List ℕ) (done n : ℕ)
+    → now ≡ told_then first (take done bytes) → last ≡ told_then now (take n (between done (length bytes) bytes))
+    → last ≡ told_then first (take (done + n) bytes)
+told_then-more first now last bytes done n before takes =
+    takes ∙ ap (λ t. told_then t (take n (between done (length bytes) bytes))) before
+    ∙ told_then-append first (take done bytes) (take n (between done (length bytes) bytes))
+    ∙ ap (told_then first) (ap (λ xs. take done bytes ++ take n xs) (between_to_end bytes done (length bytes) (omega arith)) ∙ sym (take-add done n bytes))
