@@ -3,6 +3,7 @@ use Rattle.std.proofs.Common.{◌≡◌, ℕ, ◌+◌, List, length, take, drop,
 use Rattle.std.specs.List.{between}
 use Rattle.std.proofs.lemmas.Slice.{between_to_end}
 use Rattle.std.proofs.Math.Seq.{take-add}
+use Rattle.std.proofs.lemmas.List.{take-append-drop, take_at, drop-drop}
 use Rattle.spb_edge.specs.Told.{told_then, told_then-append}
 
 -- what was told, then a front of the bytes, then the first of those behind it
@@ -13,3 +14,11 @@ told_then-more first now last bytes done n before takes =
     takes ∙ ap (λ t. told_then t (take n (between done (length bytes) bytes))) before
     ∙ told_then-append first (take done bytes) (take n (between done (length bytes) bytes))
     ∙ ap (told_then first) (ap (λ xs. take done bytes ++ take n xs) (between_to_end bytes done (length bytes) (omega arith)) ∙ sym (take-add done n bytes))
+
+-- a front that was copied into a buffer, and what is left behind it
+pub front_copied : (left bytes copied behind : List ℕ) (at count : ℕ) → left ≡ drop at bytes → copied ≡ take count left → length copied ≡ count
+    → left ≡ take count (copied ++ behind) ++ drop (at + count) bytes
+front_copied left bytes copied behind at count is copy long =
+    sym (take-append-drop count left)
+    ∙ ap (λ xs. xs ++ drop count left) (sym copy ∙ sym (take_at copied behind count long))
+    ∙ ap (λ xs. take count (copied ++ behind) ++ xs) (ap (drop count) is ∙ drop-drop count at bytes)

@@ -3,4 +3,8 @@ pub mod Fault
 pub mod Source
 pub mod Sink
 pub mod Lines
+pub mod MemSource
+pub mod Disk
+pub mod SureDisk
+pub mod MemSink
 pub mod Reader

@@ -4,24 +4,24 @@
 //! said of what tells, and the clauses on faults hold of all.
 #![tactic(auto)]
 
-// mod disk;
-// mod endless_source;
+mod disk;
+mod endless_source;
 mod lists;
-// mod mem_sink;
-// mod mem_source;
+mod mem_sink;
+mod mem_source;
 mod memory;
 mod reader;
 mod sink;
 mod source;
-// mod sure_disk;
+mod sure_disk;
 
-// pub use disk::{Disk, DiskError};
-// pub use endless_source::EndlessSource;
+pub use disk::{Disk, DiskError};
+pub use endless_source::EndlessSource;
 pub use lists::{Bytes, Ids};
-// pub use mem_sink::MemSink;
-// pub use mem_source::MemSource;
+pub use mem_sink::MemSink;
+pub use mem_source::MemSource;
 pub use memory::Memory;
 pub use reader::{EdgeError, INPUT_LIMIT, Line, LineReader};
 pub use sink::{Put, Sink, WriteFault, put_all};
 pub use source::{Source, Take};
-// pub use sure_disk::SureDisk;
+pub use sure_disk::SureDisk;

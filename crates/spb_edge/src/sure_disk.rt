@@ -1,0 +1,76 @@
+ghost use Rattle.std.specs.Prelude.{◌≡◌, ℕ, ◌+◌, ◌≤◌, true, List, IsOk, OnOk, IfOk, OnErr, length, take, drop};
+ghost use Rattle.spb_edge.specs.Disk.{Sizes, Writes, Grows, CountsFault, CountsWriteFault};
+ghost use Rattle.spb_edge.specs.Fault.{counted};
+ghost use Rattle.spb_edge.specs.SureDisk.{Image};
+
+use crate::{Bytes, Disk, DiskError, Memory};
+use std::alloc::Global;
+use std::marker::Model;
+
+/// A disk in memory that never fails, and tells its image.
+#[derive(Debug, Drop)]
+pub struct SureDisk {
+    image: Vec<u8>,
+    reads: u64,
+}
+
+impl Model for SureDisk {
+    ghost use Rattle.spb_edge.specs.SureDisk.{Image};
+
+    ghost Value = { Image };
+
+    ghost view = { λ d. record { bytes = d.image.items; reads = d.reads } };
+}
+
+impl SureDisk {
+    /// A disk with a copy of the image.
+    pub fn new(alloc: Global, image: &[u8]) -> Result<SureDisk, Memory>
+        ensures { IfOk result (λ disk. (disk.bytes ≡ image.now) × (disk.reads ≡ 0)) }
+    {
+        Ok(SureDisk {
+            image: Vec::from_slice(alloc, image)?,
+            reads: 0,
+        })
+    }
+}
+
+impl Disk for SureDisk {
+    ghost told = { λ _. true };
+
+    ghost image = { λ d. d.bytes };
+
+    ghost size_of = { λ d. length d.bytes };
+
+    ghost reads = { λ d. d.reads };
+
+    ghost faults = { λ _. 0 };
+
+    ghost use Rattle.std.specs.Prelude.{refl};
+
+    ghost length_is = { λ _ _. refl };
+
+    fn size(&mut self) -> Result<u64, DiskError> {
+        Ok(self.image.len() as u64)
+    }
+
+    fn read(&mut self, at: u64, into: &mut [u8]) -> Result<(), DiskError> {
+        self.reads = self.reads.saturating_add(1);
+        let at = at as usize;
+        into.copy_from_slice(&self.image[at..at + into.len()]);
+        Ok(())
+    }
+
+    fn write_at(&mut self, at: u64, bytes: &[u8]) -> Result<(), DiskError> {
+        let at = at as usize;
+        let over = bytes.len().min(self.image.len() - at);
+        if let Err(_) = self.image.extend_from_slice(&bytes[over..]) {
+            return Err(DiskError::Memory);
+        }
+        self.image[at..at + over].copy_from_slice(&bytes[..over]);
+        Ok(())
+    }
+
+    fn sync(&mut self) -> Result<(), DiskError> {
+        Ok(())
+    }
+}
