@@ -30,11 +30,11 @@ Grows (Err e) old end new = (old ≤ new) × (new ≤ max old end)
 -- a failure is counted, and the count never falls; want of memory is no answer
 abbrev pub CountsFault : {A : Type 0} → Result A DiskError → ℕ → ℕ → Type 0
 CountsFault (Ok _) before now = before ≤ now
-CountsFault (Err Failed) before now = Rose before now
+CountsFault (Err Failed) before now = (before ≤ now) × Rose before now
 CountsFault (Err Memory) before now = ⊥
 
 -- the same of a write from a size to an end: memory is wanted only for growth
 abbrev pub CountsWriteFault : Result Unit DiskError → ℕ → ℕ → ℕ → ℕ → Type 0
 CountsWriteFault (Ok _) size end before now = before ≤ now
-CountsWriteFault (Err Failed) size end before now = Rose before now
+CountsWriteFault (Err Failed) size end before now = (before ≤ now) × Rose before now
 CountsWriteFault (Err Memory) size end before now = (size < end) × (before ≤ now)

@@ -77,7 +77,7 @@ IsNextLine limit line None None = Unit {0}
 -- them are unread
 abbrev pub HasCause : Result Line EdgeError → ℕ → ℕ → ℕ → ℕ → Type 0
 HasCause (Ok line) before now total unread = (before ≤ now) × (total ≤ 2 ^ 30)
-HasCause (Err edge.ReadFault) before now total unread = Rose before now × (total ≤ 2 ^ 30) × (unread ≡ 0)
+HasCause (Err edge.ReadFault) before now total unread = (before ≤ now) × Rose before now × (total ≤ 2 ^ 30) × (unread ≡ 0)
 HasCause (Err edge.InputLimit) before now total unread = (before ≤ now) × (0 < unread) × (total ≡ 2 ^ 30 + unread)
 HasCause (Err edge.Memory) before now total unread = (before ≤ now) × (total ≤ 2 ^ 30)
 
@@ -96,7 +96,7 @@ Refills (Ok true) old new =
 Refills (Ok false) old new =
     (rest new ≡ rest old) × (unread new ≡ []) × (taken new ≡ taken old) × (taken new ≤ 2 ^ 30) × (faults old ≤ faults new) × NothingLeft (rest old)
 Refills (Err edge.ReadFault) old new =
-    (rest new ≡ rest old) × (unread new ≡ []) × (taken new ≡ taken old) × (taken new ≤ 2 ^ 30) × Rose (faults old) (faults new)
+    (rest new ≡ rest old) × (unread new ≡ []) × (taken new ≡ taken old) × (taken new ≤ 2 ^ 30) × (faults old ≤ faults new) × Rose (faults old) (faults new)
 Refills (Err edge.InputLimit) old new =
     (rest new ≡ rest old) × (0 < length (unread new)) × (taken old ≡ 2 ^ 30) × (taken new ≡ 2 ^ 30 + length (unread new))
     × (faults old ≤ faults new)

@@ -18,7 +18,7 @@ Takes Failed piece old new = new ≡ old
 -- a failure is counted, and the count never falls
 abbrev pub CountsFault : Put → ℕ → ℕ → Type 0
 CountsFault (Took n) before now = before ≤ now
-CountsFault Failed before now = Rose before now
+CountsFault Failed before now = (before ≤ now) × Rose before now
 
 -- all of the bytes were put, or a proper front of them
 abbrev pub PutsAll : {E : Type 0} → Result Unit E → List ℕ → Option (List ℕ) → Option (List ℕ) → Type 0
@@ -28,4 +28,4 @@ PutsAll (Err _) bytes old new = (n : ℕ) × (n < length bytes) × (new ≡ told
 -- the answer of a write that may fail: a failure is counted, and the count never falls
 abbrev pub CountsWriteFault : {E : Type 0} → Result Unit E → ℕ → ℕ → Type 0
 CountsWriteFault (Ok _) before now = before ≤ now
-CountsWriteFault (Err _) before now = Rose before now
+CountsWriteFault (Err _) before now = (before ≤ now) × Rose before now

@@ -21,4 +21,4 @@ Gives Failed into old new = new ≡ old
 abbrev pub CountsFault : Take → ℕ → ℕ → Type 0
 CountsFault (Got n) before now = before ≤ now
 CountsFault End before now = before ≤ now
-CountsFault Failed before now = Rose before now
+CountsFault Failed before now = (before ≤ now) × Rose before now

@@ -1,5 +1,5 @@
 //! The lines of a stream, in whatever pieces it comes.
-ghost use Rattle.std.specs.Prelude.{◌≡◌, ℕ, ◌+◌, ◌-◌, ◌^◌, ◌<◌, ◌≤◌, List, [], ◌++◌, length, IfOk, IsOk};
+ghost use Rattle.std.specs.Prelude.{◌≡◌, ℕ, ◌+◌, ◌-◌, ◌^◌, ◌<◌, ◌≤◌, List, [], ◌++◌, length, IfOk, IsOk, IsTrue, ◌↔◌};
 
 ghost use Rattle.spb_edge.specs.Source.{Gives, IsWithin, CountsFault};
 
@@ -26,8 +26,19 @@ pub enum Line {
 }
 
 impl Line {
+    ghost use Rattle.spb_edge.specs.declared.reader.Line.{Line};
     ghost use Rattle.spb_edge.specs.Lines.{line_of};
     ghost use Rattle.spb_edge.specs.Reader.{Closes};
+
+    /// Whether no line is left.
+    pub fn is_end(&self) -> bool
+        ensures { IsTrue result ↔ (self.now ≡ Line.End) }
+    {
+        match self {
+            Line::Text(_) | Line::Long => false,
+            Line::End => true,
+        }
+    }
 
     /// The line that goes on with `piece`.
     fn longer(self, piece: &[u8], limit: usize) -> Result<Line, Memory>
@@ -96,6 +107,7 @@ impl From<Memory> for EdgeError {
 ///
 /// It keeps the reference that it was made with, and dropping it takes nothing from the source. Its
 /// buffer is part of it, so that only the text of a line takes memory.
+#[derive(Drop)]
 pub struct LineReader<'a, S: Source> {
     source: &'a mut S,
     buffer: [u8; BUFFER],
@@ -112,7 +124,8 @@ impl<'a, S: Source> LineReader<'a, S> {
     /// A reader at the front of what the source has left. It takes no memory.
     pub fn new(_alloc: Global, source: &'a mut S) -> Result<LineReader<'a, S>, Memory>
         ensures made { IsOk result }
-        ensures empty { IfOk result (λ reader. unread reader ≡ []) }
+        ensures nothing_unread { IfOk result (λ reader. unread reader ≡ []) }
+        ensures nothing_taken { IfOk result (λ reader. taken reader ≡ 0) }
         ensures name { IfOk result (λ reader. reader.source.ghost_name ≡ source.entry.ghost_name) }
         ensures at { IfOk result (λ reader. reader.source.now ≡ source.old) }
     {

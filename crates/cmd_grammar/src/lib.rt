@@ -1,0 +1,16 @@
+//! The command language: lines as commands, and replies as lines.
+//!
+//! A command's words stand one space apart. They are tested in this order: the command's name and the
+//! number of words, the collection, the id or the radius, the object. The first that fails is named.
+#![tactic(auto)]
+
+mod lines;
+mod replies;
+#[cfg(test)]
+mod tests;
+mod words;
+
+pub use lines::{LineError, read_command};
+pub use replies::write_reply;
+pub use spb_defs::{Command, Reply, What};
+pub use words::read_words;

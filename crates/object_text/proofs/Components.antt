@@ -1,0 +1,199 @@
+-- The text of a vector, read from the left: what the components so far leave to be read.
+use Rattle.std.proofs.Common.{◌≡◌, ℕ, ◌+◌, ◌*◌, ◌^◌, ◌<◌, ◌≤◌, ◌==◌, Bool, true, false, cond, List, [], ◌∷◌, ◌++◌, length, get_or, take, drop, refl, sym, ap, subst, ◌∙◌, arith, Option, Some, None, nat_le, nat_lt, append_assoc, zero, suc}
+use Rattle.std.specs.Prelude.{option_and_then, All}
+use Rattle.std.specs.Int.{w32, to_be_bytes, IsInRange}
+use Rattle.std.specs.List.{slice_split, position, flat_map, count_by}
+use Rattle.std.specs.Str.Parse.{AllDigits, digits_value}
+use Rattle.std.proofs.lemmas.Bool.Decides.{nat_tests}
+use Rattle.std.proofs.lemmas.List.{length-append, append-nil}
+use Rattle.std.proofs.lemmas.List.Elements.{All-from_get_or, All-cons}
+use Rattle.std.proofs.lemmas.Grind.{flat_map-append}
+use Rattle.std.proofs.lemmas.List.Splits.{slice_split_none, length-slice_split}
+use Rattle.std.proofs.lemmas.Option.{option_and_then_some, cond_some}
+use Rattle.std.proofs.lemmas.Str.Parse.{digit_at}
+use Rattle.metrics_builtin.specs.declared.Space.{Space}
+use Rattle.metrics_builtin.specs.declared.Space.TheVariants.{L1}
+use Rattle.metrics_builtin.specs.Space.{IsValid}
+use Rattle.metrics_builtin.specs.Vectors.{spelled, IsVector}
+use Rattle.metrics_builtin.specs.VectorLaws.{IsVector-spelled, length-spelled}
+use Rattle.spb_defs.specs.Numbers.{number_of, at_most, number_within}
+use Rattle.spb_defs.specs.ObjectText.{numbers_within, vector_with, object_of}
+use Rattle.object_text.proofs.Numerals.{IsPlain, number_of-some}
+use Rattle.object_text.proofs.Cuts.{split-none, split-some}
+
+-- ---- a number of at most a bound
+
+at_most-some : (bound n : ℕ) (read : Option ℕ) → at_most bound read ≡ Some n → (read ≡ Some n) × (n ≤ bound)
+at_most-some bound n None e = absurd (cc)
+at_most-some bound n (Some m) e =
+    let test = cond_some (nat_le m bound) m n e in
+    let low : nat_le m bound ≡ true = test.0 in
+    let same : m ≡ n = test.1 in
+    (ap (λ (k : ℕ). Some k) same, grind (arith, nat_tests))
+
+pub number_within-le : (bound n : ℕ) (word : List ℕ) → number_within bound word ≡ Some n → n ≤ bound
+number_within-le bound n word e = (at_most-some bound n (number_of word) e).1
+
+no_comma : (x : ℕ) → 48 ≤ x → (x == 44) ≡ false
+no_comma x h = grind (arith, nat_tests)
+
+-- a number has no comma
+pub number_within-whole : (bound n : ℕ) (word : List ℕ) → number_within bound word ≡ Some n → slice_split (λ b. b == 44) word ≡ word ∷ []
+number_within-whole bound n word e =
+    let plain = number_of-some word n (at_most-some bound n (number_of word) e).0 in
+    slice_split_none (λ b. b == 44) word (All-from_get_or (λ x. (x == 44) ≡ false) word 0 (λ k h. no_comma (get_or word k 0) (digit_at word k plain.digits h).0))
+
+-- ---- numbers of at most a bound
+
+-- what is read of the first word and of the rest
+record IsConsed (first : Option ℕ) (others : Option (List ℕ)) (ns : List ℕ) : Type 0 where
+  number : ℕ
+  numbers : List ℕ
+  here : first ≡ Some number
+  behind : others ≡ Some numbers
+  both : ns ≡ number ∷ numbers
+
+consed : (first : Option ℕ) (others : Option (List ℕ)) (ns : List ℕ) → option_and_then (λ n. option_and_then (λ ms. Some (n ∷ ms)) others) first ≡ Some ns → IsConsed first others ns
+consed None others ns e = absurd (cc)
+consed (Some n) None ns e = absurd (cc)
+consed (Some n) (Some ms) ns e = record { number = n; numbers = ms; here = refl; behind = refl; both = cc }
+
+nil_some : (ns : List ℕ) → ◌≡◌ {A = Option (List ℕ)} (Some []) (Some ns) → ns ≡ []
+nil_some ns e = cc
+
+pub length-numbers_within : (bound : ℕ) (words : List (List ℕ)) (ns : List ℕ) → numbers_within bound words ≡ Some ns → length ns ≡ length words
+length-numbers_within bound [] ns e = ap length (nil_some ns e)
+length-numbers_within bound (word ∷ words) ns e =
+    let parts = consed (number_within bound word) (numbers_within bound words) ns e in
+    let rest : length parts.numbers ≡ length words = length-numbers_within bound words parts.numbers parts.behind in
+    ap length parts.both ∙ ap suc rest
+
+pub All-numbers_within : (bound : ℕ) (words : List (List ℕ)) (ns : List ℕ) → numbers_within bound words ≡ Some ns → All (λ n. n ≤ bound) ns
+All-numbers_within bound [] ns e = subst (All (λ n. n ≤ bound)) (sym (nil_some ns e)) (λ k d h. absurd (omega arith))
+All-numbers_within bound (word ∷ words) ns e =
+    let parts = consed (number_within bound word) (numbers_within bound words) ns e in
+    let rest : All (λ n. n ≤ bound) parts.numbers = All-numbers_within bound words parts.numbers parts.behind in
+    subst (All (λ n. n ≤ bound)) (sym parts.both) (All-cons (λ n. n ≤ bound) parts.number parts.numbers (number_within-le bound parts.number word parts.here) rest)
+
+-- ---- the components so far, and the rest
+
+-- what the words complete the components to
+abbrev pub completed : ℕ → ℕ → List ℕ → List (List ℕ) → Option (List ℕ)
+completed dim most ns words = option_and_then (λ ms. vector_with dim (ns ++ ms)) (numbers_within most words)
+
+pub completed-none : (dim most : ℕ) (ns : List ℕ) (word : List ℕ) (words : List (List ℕ)) → number_within most word ≡ None → completed dim most ns (word ∷ words) ≡ None
+completed-none dim most ns word words e =
+    ap (λ (o : Option ℕ). option_and_then (λ ms. vector_with dim (ns ++ ms)) (option_and_then (λ n. option_and_then (λ ms. Some (n ∷ ms)) (numbers_within most words)) o)) e
+
+moved : (dim n : ℕ) (ns : List ℕ) (read : Option (List ℕ)) → option_and_then (λ ms. vector_with dim (ns ++ ms)) (option_and_then (λ ms. Some (n ∷ ms)) read) ≡ option_and_then (λ ms. vector_with dim ((ns ++ n ∷ []) ++ ms)) read
+moved dim n ns None = refl
+moved dim n ns (Some ms) = ap (vector_with dim) (sym (append_assoc ns (n ∷ []) ms))
+
+pub completed-more : (dim most n : ℕ) (ns : List ℕ) (word : List ℕ) (words : List (List ℕ)) → number_within most word ≡ Some n → completed dim most ns (word ∷ words) ≡ completed dim most (ns ++ n ∷ []) words
+completed-more dim most n ns word words e =
+    ap (λ (o : Option ℕ). option_and_then (λ ms. vector_with dim (ns ++ ms)) (option_and_then (λ k. option_and_then (λ ms. Some (k ∷ ms)) (numbers_within most words)) o)) e
+    ∙ moved dim n ns (numbers_within most words)
+
+other_length : (dim : ℕ) (ns : List ℕ) → (length ns ≡ dim → ⊥) → vector_with dim ns ≡ None
+other_length dim ns other =
+    let test : (length ns == dim) ≡ false = grind (arith, nat_tests) in
+    ap (λ (b : Bool). cond b (Some (spelled ns)) None) test
+
+others : (dim many : ℕ) (ns : List ℕ) (read : Option (List ℕ)) → ((ms : List ℕ) → read ≡ Some ms → length ms ≡ many) → (length ns + many ≡ dim → ⊥) → option_and_then (λ ms. vector_with dim (ns ++ ms)) read ≡ None
+others dim many ns None h other = refl
+others dim many ns (Some ms) h other =
+    let more : length ms ≡ many = h ms refl in
+    let whole : length (ns ++ ms) ≡ length ns + length ms = length-append ns ms in
+    other_length dim (ns ++ ms) (λ e. other (omega arith))
+
+-- too few words or too many
+pub completed-other : (dim most : ℕ) (ns : List ℕ) (words : List (List ℕ)) → (length ns + length words ≡ dim → ⊥) → completed dim most ns words ≡ None
+completed-other dim most ns words other = others dim (length words) ns (numbers_within most words) (length-numbers_within most words) other
+
+pub completed-whole : (dim most : ℕ) (ns : List ℕ) → length ns ≡ dim → completed dim most ns [] ≡ Some (spelled ns)
+completed-whole dim most ns e =
+    let whole : ns ++ [] ≡ ns = append-nil ns in
+    let test : (length ns == dim) ≡ true = grind (arith, nat_tests) in
+    ap (vector_with dim) whole ∙ ap (λ (b : Bool). cond b (Some (spelled ns)) None) test
+
+-- ---- the loop
+
+-- from the first component on
+pub record IsBegun (dim most done : ℕ) (object rest : List ℕ) (whole : Option (List ℕ)) : Type 0 where
+  pub numbers : List ℕ
+  pub count : length numbers + 1 ≡ done
+  pub bytes : object ≡ spelled numbers
+  pub goes_on : whole ≡ completed dim most numbers (slice_split (λ b. b == 44) rest)
+
+pub begins : (dim most : ℕ) (object text : List ℕ) → object ≡ [] → IsBegun dim most 1 object text (object_of (L1 dim most) text)
+unfolding object_of spelled
+begins dim most object text e = record { numbers = []; count = refl; bytes = e; goes_on = refl }
+
+pub room : (dim most done : ℕ) (object rest : List ℕ) (whole : Option (List ℕ)) → IsBegun dim most done object rest whole → length object + 4 ≡ 4 * done
+room dim most done object rest whole b =
+    let long : length object ≡ 4 * length b.numbers = ap length b.bytes ∙ length-spelled b.numbers in
+    let count = b.count in
+    omega arith
+
+-- the rest is the last component, and some are missing
+pub ends_early : (dim most done : ℕ) (object rest : List ℕ) (whole : Option (List ℕ)) → IsBegun dim most done object rest whole → done < dim → slice_split (λ b. b == 44) rest ≡ rest ∷ [] → whole ≡ None
+ends_early dim most done object rest whole b below last =
+    let count = b.count in
+    b.goes_on ∙ ap (completed dim most b.numbers) last ∙ completed-other dim most b.numbers (rest ∷ []) (λ e. absurd (omega arith))
+
+pub fails : (dim most done : ℕ) (object rest : List ℕ) (whole : Option (List ℕ)) (word : List ℕ) (words : List (List ℕ)) → IsBegun dim most done object rest whole → slice_split (λ b. b == 44) rest ≡ word ∷ words → number_within most word ≡ None → whole ≡ None
+fails dim most done object rest whole word words b parts none =
+    b.goes_on ∙ ap (completed dim most b.numbers) parts ∙ completed-none dim most b.numbers word words none
+
+spelled-push : (ns : List ℕ) (n : ℕ) → spelled (ns ++ n ∷ []) ≡ spelled ns ++ to_be_bytes w32 n
+unfolding spelled
+spelled-push ns n = flat_map-append (to_be_bytes w32) ns (n ∷ []) ∙ ap (λ (bytes : List ℕ). flat_map (to_be_bytes w32) ns ++ bytes) (append-nil (to_be_bytes w32 n))
+
+pub goes_on : (dim most done n : ℕ) (object new rest word behind : List ℕ) (whole : Option (List ℕ)) → IsBegun dim most done object rest whole → slice_split (λ b. b == 44) rest ≡ word ∷ slice_split (λ b. b == 44) behind → number_within most word ≡ Some n → new ≡ object ++ to_be_bytes w32 n → IsBegun dim most (done + 1) new behind whole
+goes_on dim most done n object new rest word behind whole b parts some e =
+    let count = b.count in
+    let pushed : length (b.numbers ++ n ∷ []) ≡ length b.numbers + 1 = length-append b.numbers (n ∷ []) in
+    record {
+      numbers = b.numbers ++ n ∷ [];
+      count = omega arith;
+      bytes = e ∙ ap (λ (bytes : List ℕ). bytes ++ to_be_bytes w32 n) b.bytes ∙ sym (spelled-push b.numbers n);
+      goes_on = b.goes_on ∙ ap (completed dim most b.numbers) parts ∙ completed-more dim most n b.numbers word (slice_split (λ x. x == 44) behind) some;
+    }
+
+none_left : (dim most : ℕ) (ns rest : List ℕ) (place : Option ℕ) → position (λ b. b == 44) rest ≡ place → length ns + 1 ≡ dim → number_within most rest ≡ None → completed dim most ns (slice_split (λ b. b == 44) rest) ≡ None
+none_left dim most ns rest None at count none =
+    ap (completed dim most ns) (split-none (λ b. b == 44) rest at) ∙ completed-none dim most ns rest [] none
+none_left dim most ns rest (Some i) at count none =
+    let behind = drop (i + 1) rest in
+    let more : length (slice_split (λ b. b == 44) behind) ≡ count_by (λ b. b == 44) behind + 1 = length-slice_split (λ b. b == 44) behind in
+    ap (completed dim most ns) (split-some (λ b. b == 44) rest i at)
+    ∙ completed-other dim most ns (take i rest ∷ slice_split (λ b. b == 44) behind) (λ e. absurd (omega arith))
+
+-- the last one fails, also where more would follow
+pub last_fails : (dim most done : ℕ) (object rest : List ℕ) (whole : Option (List ℕ)) → IsBegun dim most done object rest whole → done ≡ dim → number_within most rest ≡ None → whole ≡ None
+last_fails dim most done object rest whole b end none =
+    b.goes_on ∙ none_left dim most b.numbers rest (position (λ x. x == 44) rest) refl (b.count ∙ end) none
+
+pub ends : (dim most done n : ℕ) (object new rest : List ℕ) (whole : Option (List ℕ)) → IsBegun dim most done object rest whole → done ≡ dim → number_within most rest ≡ Some n → new ≡ object ++ to_be_bytes w32 n → whole ≡ Some new
+ends dim most done n object new rest whole b end some e =
+    let pushed : length (b.numbers ++ n ∷ []) ≡ length b.numbers + 1 = length-append b.numbers (n ∷ []) in
+    let count = b.count in
+    let bytes : new ≡ spelled (b.numbers ++ n ∷ []) = e ∙ ap (λ (bytes : List ℕ). bytes ++ to_be_bytes w32 n) b.bytes ∙ sym (spelled-push b.numbers n) in
+    b.goes_on ∙ ap (completed dim most b.numbers) (number_within-whole most n rest some) ∙ completed-more dim most n b.numbers rest [] some
+    ∙ completed-whole dim most (b.numbers ++ n ∷ []) (omega arith) ∙ ap (λ (o : List ℕ). Some o) (sym bytes)
+
+-- ---- what is read is an object
+
+valid_numbers : (dim most : ℕ) (words : List (List ℕ)) (read : Option (List ℕ)) (object : List ℕ) → ((ns : List ℕ) → read ≡ Some ns → All (λ n. n ≤ most) ns) → option_and_then (vector_with dim) read ≡ Some object → IsVector dim most object
+valid_numbers dim most words None object h e = absurd (cc)
+valid_numbers dim most words (Some ns) object h e =
+    let test = cond_some (length ns == dim) (spelled ns) object e in
+    let long : (length ns == dim) ≡ true = test.0 in
+    let many : length ns ≡ dim = grind (arith, nat_tests) in
+    subst (IsVector dim most) test.1 (IsVector-spelled dim most ns many (h ns refl))
+
+pub object_of-valid : (space : Space) (text object : List ℕ) → object_of space text ≡ Some object → IsValid space object
+unfolding object_of
+object_of-valid (L1 dim most) text object e =
+    valid_numbers dim most (slice_split (λ b. b == 44) text) (numbers_within most (slice_split (λ b. b == 44) text)) object
+    (All-numbers_within most (slice_split (λ b. b == 44) text)) e

@@ -1,0 +1,3 @@
+pub mod Reads
+pub use Rattle.spb_defs.specs.Numbers
+pub use Rattle.spb_defs.specs.ObjectText

@@ -1,0 +1,4 @@
+pub mod RowLaws
+pub mod AddLaws
+pub mod Running
+pub mod RangeLaws

@@ -1,0 +1,61 @@
+use Rattle.std.proofs.Common.{◌≡◌, ℕ, List, ◌++◌, Some, true, false, sym, ap, subst, ◌∙◌, arith, rules}
+use Rattle.std.proofs.lemmas.Bool.{false≢true}
+use Rattle.metrics_builtin.specs.declared.Space.TheVariants.{L1}
+use Rattle.spb_edge.specs.declared.reader.Line.TheVariants.{End}
+use Rattle.spb_edge.specs.Reader.{unread, rest, taken, faults}
+use Rattle.spb_defs.specs.State.{empty_in_memory}
+use Rattle.spb_top.specs.Memory.{state_of, HasValidObjects}
+use Rattle.spb_top.proofs.Running.{Answering, Answering-line, front_so_far, front_of_reply, front_stopped, cause_stopped, Rose-later}
+use Rattle.spb_top.proofs.run.answer_lines.Goals as goal
+
+pub returns-in-Err-clause-text : goal.returns-in-Err-clause-text
+returns-in-Err-clause-text g c =
+    front_stopped g.S.Source g.K.Sink (empty_in_memory (L1 c.args.metric.dim c.args.metric.most)) c.args.reader.now c.args.output.now c.loop-line.reader c.loop-line.output (state_of c.loop-line.store) _ c.loop-line.invariant.1.1 c.in-Err.e c.stopped.result c.stopped.ensures
+
+pub returns-in-Err-clause-cause : goal.returns-in-Err-clause-cause
+returns-in-Err-clause-cause g c =
+    let consumed = c.take_line.ensures.consumed in
+    cause_stopped g.S.Source g.K.Sink (empty_in_memory (L1 c.args.metric.dim c.args.metric.most)) c.args.reader.now c.args.output.now c.loop-line.reader c.loop-line.output (state_of c.loop-line.store) _ c.loop-line.invariant.1.1
+      c.take_line.new.self consumed.0 consumed.1 c.in-Err.e c.take_line.result c.in-Err.is c.take_line.ensures.cause c.stopped.result c.stopped.ensures
+
+pub returns-in_default-respond-clause-text : goal.returns-in_default-respond-clause-text
+returns-in_default-respond-clause-text g c =
+    front_so_far g.S.Source g.K.Sink (empty_in_memory (L1 c.args.metric.dim c.args.metric.most)) c.args.reader.now c.args.output.now c.loop-line.reader c.loop-line.output (state_of c.loop-line.store) _ c.loop-line.invariant.1.1
+
+pub returns-in_default-put_all-clause-text : goal.returns-in_default-put_all-clause-text
+returns-in_default-put_all-clause-text g c =
+    let not_end : c.in-Ok-take_line.line ≡ End → ⊥ = λ e. false≢true (sym c.if-is_end.false ∙ c.is_end.ensures.1 e) in
+    let puts = c.in_default-put_all.ensures.puts in
+    front_of_reply g.S.Source g.K.Sink (empty_in_memory (L1 c.args.metric.dim c.args.metric.most)) c.args.reader.now c.args.output.now c.loop-line.reader c.loop-line.output (state_of c.loop-line.store) _ c.loop-line.invariant.1.1
+      c.take_line.new.self c.put_all.new.sink c.in-Ok-take_line.line c.as_slice.result.now puts.0 not_end c.in-Ok-take_line.ensures.line (c.as_slice.ensures ∙ c.in-Ok-respond.ensures.text) puts.2
+
+pub returns-in_default-put_all-clause-cause : goal.returns-in_default-put_all-clause-cause
+returns-in_default-put_all-clause-cause g c =
+    let so = c.loop-line.invariant.1.1 in
+    let read = c.in-Ok-take_line.ensures.cause in
+    let wrote = c.in_default-put_all.ensures.fault in
+    let source = so.source in
+    let sink = so.sink_faults in
+    (record { source = omega (arith, read.0); sink = omega (arith, wrote.0) }, Rose-later _ _ _ sink wrote.1)
+
+pub loop-line-preserved-in-Ok-put_all : goal.loop-line-preserved-in-Ok-put_all
+loop-line-preserved-in-Ok-put_all g c =
+    let not_end : c.in-Ok-take_line.line ≡ End → ⊥ = λ e. false≢true (sym c.if-is_end.false ∙ c.is_end.ensures.1 e) in
+    let consumed = c.take_line.ensures.consumed in
+    let read = c.in-Ok-take_line.ensures.cause in (
+      search rules,
+      (_, Answering-line g.S.Source g.K.Sink (empty_in_memory (L1 c.args.metric.dim c.args.metric.most)) c.args.reader.now c.args.output.now c.loop-line.reader c.loop-line.output (state_of c.loop-line.store) _ c.loop-line.invariant.1.1
+        c.take_line.new.self c.put_all.new.sink (state_of c.respond.new.store) c.in-Ok-take_line.line c.as_slice.result.now consumed.0 not_end c.in-Ok-take_line.ensures.line consumed.1
+        read.1 read.0 (c.as_slice.ensures ∙ c.in-Ok-respond.ensures.text) c.in-Ok-respond.ensures.next c.in-Ok-put_all.ensures.puts c.in-Ok-put_all.ensures.fault c.in-Ok-respond.ensures.valid),
+    )
+
+pub loop-line-preserved : goal.loop-line-preserved
+loop-line-preserved g c =
+    let not_end : c.in-Ok-take_line.line ≡ End → ⊥ = λ e. false≢true (sym c.if-is_end.false ∙ c.is_end.ensures.1 e) in
+    let consumed = c.take_line.ensures.consumed in
+    let read = c.in-Ok-take_line.ensures.cause in (
+      search rules,
+      (_, Answering-line g.S.Source g.K.Sink (empty_in_memory (L1 c.args.metric.dim c.args.metric.most)) c.args.reader.now c.args.output.now c.loop-line.reader c.loop-line.output (state_of c.loop-line.store) _ c.loop-line.invariant.1.1
+        c.take_line.new.self c.put_all.new.sink (state_of c.respond.new.store) c.in-Ok-take_line.line c.as_slice.result.now consumed.0 not_end c.in-Ok-take_line.ensures.line consumed.1
+        read.1 read.0 (c.as_slice.ensures ∙ c.in-Ok-respond.ensures.text) c.in-Ok-respond.ensures.next c.in-Ok-put_all.ensures.puts c.in-Ok-put_all.ensures.fault c.in-Ok-respond.ensures.valid),
+    )

@@ -1,0 +1,6 @@
+pub mod Memory
+pub mod Status
+pub mod Run
+pub use Rattle.spb_defs.specs.State
+pub use Rattle.spb_defs.specs.Play
+pub use Rattle.spb_defs.specs.Words

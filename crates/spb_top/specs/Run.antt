@@ -1,0 +1,66 @@
+-- What a run says of its input, its output and its status.
+use Rattle.std.specs.Prelude.{◌≡◌, ℕ, ◌<◌, ◌≤◌, ◌^◌, List, [], length, take, Option, IfSome}
+use Rattle.spb_edge.specs.Told.{told_then}
+use Rattle.spb_edge.specs.Fault.{Rose}
+use Rattle.spb_edge.specs.declared.reader.EdgeError.{EdgeError}
+use Rattle.spb_edge.specs.declared.reader.EdgeError.TheVariants as edge
+use Rattle.spb_top.specs.declared.status.Status.{Status}
+use Rattle.spb_top.specs.declared.status.Status.TheVariants.{Done, Usage, NoMemory, ReadFault, WriteFault, InputLimit}
+
+-- a front of the text was written
+abbrev pub WritesFront : Option (List ℕ) → Option (List ℕ) → List ℕ → Type 0
+WritesFront old new text = (n : ℕ) × (new ≡ told_then old (take n text))
+
+-- what was written: all of the text on Done, nothing on Usage, and a front of it on every other status
+abbrev pub Writes : Status → Option (List ℕ) → Option (List ℕ) → List ℕ → Type 0
+Writes Done old new text = new ≡ told_then old text
+Writes Usage old new text = new ≡ old
+Writes NoMemory old new text = WritesFront old new text
+Writes ReadFault old new text = WritesFront old new text
+Writes WriteFault old new text = WritesFront old new text
+Writes InputLimit old new text = WritesFront old new text
+
+-- on Done nothing is left of the input, where that is told
+abbrev pub EndsInput : Status → Option (List ℕ) → Type 0
+EndsInput Done left = IfSome left (λ bytes. bytes ≡ [])
+EndsInput Usage left = Unit {0}
+EndsInput NoMemory left = Unit {0}
+EndsInput ReadFault left = Unit {0}
+EndsInput WriteFault left = Unit {0}
+EndsInput InputLimit left = Unit {0}
+
+-- the faults of the source and of the sink, before the run and now
+pub record Faults : Type 0 where
+  pub source_before : ℕ
+  pub source_now : ℕ
+  pub sink_before : ℕ
+  pub sink_now : ℕ
+
+-- the source counted no less than before, and so did the sink
+pub record NoneFell (faults : Faults) : Type 0 where
+  pub source : faults.source_before ≤ faults.source_now
+  pub sink : faults.sink_before ≤ faults.sink_now
+
+-- why the run ended so, with what the input had before it, where that is told
+abbrev pub HasCause : Status → Faults → Option (List ℕ) → Type 0
+HasCause Done faults told = NoneFell faults × IfSome told (λ bytes. length bytes ≤ 2 ^ 30)
+HasCause Usage faults told = NoneFell faults
+HasCause NoMemory faults told = NoneFell faults
+HasCause ReadFault faults told = NoneFell faults × Rose faults.source_before faults.source_now
+HasCause WriteFault faults told = NoneFell faults × Rose faults.sink_before faults.sink_now
+HasCause InputLimit faults told = NoneFell faults × IfSome told (λ bytes. 2 ^ 30 < length bytes)
+
+-- the work was done, or memory ran out
+abbrev pub IsDoneOrNoMemory : Status → Type 0
+IsDoneOrNoMemory Done = Unit {0}
+IsDoneOrNoMemory Usage = ⊥
+IsDoneOrNoMemory NoMemory = Unit {0}
+IsDoneOrNoMemory ReadFault = ⊥
+IsDoneOrNoMemory WriteFault = ⊥
+IsDoneOrNoMemory InputLimit = ⊥
+
+-- how a run ends where no line came
+abbrev pub stopped_by : EdgeError → Status
+stopped_by edge.ReadFault = ReadFault
+stopped_by edge.InputLimit = InputLimit
+stopped_by edge.Memory = NoMemory

@@ -1,0 +1,111 @@
+//! The top call.
+ghost use Rattle.std.specs.Prelude.{◌≡◌, ◌≢◌, ℕ, ◌≤◌, ◌^◌, ◌↔◌, ◌++◌, List, [], Option, Some, None, map, length, IfOk, OnOk, OnErr, IfSome};
+ghost use Rattle.std.specs.String.{string_bytes};
+ghost use Rattle.metrics_builtin.specs.declared.Space.{Space};
+ghost use Rattle.spb_edge.specs.Fault.{Rose};
+ghost use Rattle.spb_edge.specs.Reader.{unread, rest, taken, faults};
+ghost use Rattle.spb_defs.specs.State.{empty_in_memory};
+ghost use Rattle.spb_defs.specs.Step.{reply, next};
+ghost use Rattle.spb_defs.specs.ReplyText.{reply_text};
+ghost use Rattle.spb_defs.specs.Play.{play};
+ghost use Rattle.spb_defs.specs.Words.{space_of};
+ghost use Rattle.spb_top.specs.Memory.{state_of, HasValidObjects};
+ghost use Rattle.spb_top.specs.Run.{Writes, EndsInput, HasCause, IsDoneOrNoMemory, stopped_by};
+
+use crate::memory::Store;
+use crate::status::Status;
+use cmd_grammar::{read_words, write_reply};
+use metrics_builtin::{L1, Space};
+use spb_defs::LINE_LIMIT;
+use spb_edge::{Bytes, Disk, EdgeError, Line, LineReader, Memory, Sink, Source, put_all};
+use std::alloc::Global;
+
+/// Clears the text, and puts the reply to the line there; the store is then as after the line.
+fn respond(
+    store: &mut Store,
+    alloc: Global,
+    line: &Line,
+    text: &mut Bytes,
+) -> Result<(), Memory>
+    requires valid { HasValidObjects (state_of store.old).space store.old.members.entries }
+    ensures text { OnOk result (text.new ≡ reply_text (reply (state_of store.old) line.now)) }
+    ensures next { OnOk result (state_of store.new ≡ next (state_of store.old) line.now) }
+    ensures valid { HasValidObjects (state_of store.new).space store.new.members.entries }
+{
+    text.clear();
+    let reply = store.turn(alloc, line)?;
+    write_reply(&reply, text)
+}
+
+/// Answers the lines of the input one by one, from an empty store.
+fn answer_input<S: Source, K: Sink>(
+    alloc: Global,
+    metric: L1,
+    input: &mut S,
+    output: &mut K,
+) -> Status
+    ensures text { (script : List ℕ) → S.left input.old ≡ Some script
+        → Writes result (K.taken output.old) (K.taken output.new) (play (empty_in_memory (Space.L1 metric.dim metric.most)) script) }
+    ensures input { EndsInput result (S.left input.new) }
+    ensures cause { HasCause result
+        (record { source_before = S.faults input.old; source_now = S.faults input.new;
+            sink_before = K.faults output.old; sink_now = K.faults output.new })
+        (S.left input.old) }
+    ensures no_usage { result ≢ Status.Usage }
+{
+    let Ok(mut reader) = LineReader::new(alloc, input) else {
+        return Status::NoMemory;
+    };
+    answer_lines(alloc, metric, &mut reader, output)
+}
+
+/// Answers the lines of a new reader one by one, from an empty store.
+fn answer_lines<S: Source, K: Sink>(
+    alloc: Global,
+    metric: L1,
+    reader: &mut LineReader<'_, S>,
+    output: &mut K,
+) -> Status
+    requires nothing_taken { taken reader.old ≡ 0 }
+    requires nothing_unread { unread reader.old ≡ [] }
+    ensures text { (script : List ℕ) → rest reader.old ≡ Some script
+        → Writes result (K.taken output.old) (K.taken output.new) (play (empty_in_memory (Space.L1 metric.dim metric.most)) script) }
+    ensures input { EndsInput result (rest reader.new) }
+    ensures cause { HasCause result
+        (record { source_before = faults reader.old; source_now = faults reader.new;
+            sink_before = K.faults output.old; sink_now = K.faults output.new })
+        (rest reader.old) }
+    ensures no_usage { result ≢ Status.Usage }
+    ensures name { reader.new.source.ghost_name ≡ reader.old.source.ghost_name }
+{
+    let mut store = Store::new(alloc, metric);
+    let Ok(mut text) = Bytes::of(alloc, &[]) else {
+        return Status::NoMemory;
+    };
+    loop {
+        let line = match reader.take_line(alloc, LINE_LIMIT) {
+            Ok(line) => line,
+            Err(e) => return stopped(e),
+        };
+        if line.is_end() {
+            return Status::Done;
+        }
+        let Ok(()) = respond(&mut store, alloc, &line, &mut text) else {
+            return Status::NoMemory;
+        };
+        let Ok(()) = put_all(output, text.as_slice()) else {
+            return Status::WriteFault;
+        };
+    }
+}
+
+/// How a run ends where no line came.
+fn stopped(e: EdgeError) -> Status
+    ensures { result ≡ stopped_by e }
+{
+    match e {
+        EdgeError::ReadFault => Status::ReadFault,
+        EdgeError::InputLimit => Status::InputLimit,
+        EdgeError::Memory => Status::NoMemory,
+    }
+}
