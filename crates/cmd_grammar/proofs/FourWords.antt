@@ -1,13 +1,12 @@
 -- What isn't four words.
-use Rattle.std.proofs.Common.{◌≡◌, ℕ, ◌+◌, ◌≤◌, ◌<◌, ◌==◌, Bool, List, [], ◌∷◌, length, refl, sym, ap, subst, ◌∙◌, arith, Option, Some, None, zero, suc, map, Global, String}
-use Rattle.std.specs.Prelude.{Result, Ok, Err}
+use Rattle.std.proofs.Common.{◌≡◌, ℕ, ◌+◌, ◌==◌, List, [], ◌∷◌, length, refl, sym, ap, subst, arith, None, suc, map, Global, String}
+use Rattle.std.specs.Prelude.{Result, Err}
 use Rattle.std.specs.List.{slice_split, count_by}
 use Rattle.std.specs.String.{string_bytes}
 use Rattle.std.proofs.lemmas.List.{length-map}
 use Rattle.std.proofs.lemmas.List.Splits.{length-slice_split}
 use Rattle.metrics_builtin.specs.declared.Space.{Space}
 use Rattle.spb_defs.specs.declared.Command.{Command}
-use Rattle.spb_defs.specs.declared.What.{What}
 use Rattle.spb_defs.specs.declared.What.TheVariants as what
 use Rattle.spb_defs.specs.Grammar.{command_in, command_of}
 use Rattle.spb_defs.specs.Words.{space_of}

@@ -1,6 +1,8 @@
+pub mod OneLine
 pub mod ReadsCommand
 pub use Rattle.spb_defs.specs.Numbers
 pub use Rattle.spb_defs.specs.ObjectText
 pub use Rattle.spb_defs.specs.Grammar
 pub use Rattle.spb_defs.specs.ReplyText
 pub use Rattle.spb_defs.specs.Words
+pub use Rattle.object_text.specs.Texts

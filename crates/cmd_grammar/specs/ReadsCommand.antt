@@ -1,5 +1,5 @@
 -- What a line is read as.
-use Rattle.std.specs.Prelude.{◌≡◌, ℕ, ◌<◌, List, Result, Ok, Err}
+use Rattle.std.specs.Prelude.{◌≡◌, ◌^◌, ◌<◌, Result, Ok, Err}
 use Rattle.metrics_builtin.specs.declared.Space.{Space}
 use Rattle.metrics_builtin.specs.Space.{IsValid}
 use Rattle.spb_defs.specs.declared.Command.{Command}
@@ -17,7 +17,7 @@ Gives (Err errors.Memory) read = Unit {0}
 abbrev pub ReadsCommand : Result Command LineError → Result Command What → Type 0
 ReadsCommand answer read = Gives answer read
 
--- the collection is one of the four, and the object is the space's
+-- the collection is one of the four, the number is in 32 bits, and the object is the space's
 abbrev pub IsProper : Space → Command → Type 0
-IsProper space (Add c id object) = (c < 4) × IsValid space object
-IsProper space (Range c r object) = (c < 4) × IsValid space object
+IsProper space (Add c id object) = (c < 4) × (id < 2 ^ 32) × IsValid space object
+IsProper space (Range c r object) = (c < 4) × (r < 2 ^ 32) × IsValid space object

@@ -4,12 +4,14 @@
 //! number of words, the collection, the id or the radius, the object. The first that fails is named.
 #![tactic(auto)]
 
+mod laws;
 mod lines;
 mod replies;
 #[cfg(test)]
 mod tests;
 mod words;
 
+pub use laws::one_line;
 pub use lines::{LineError, read_command};
 pub use replies::write_reply;
 pub use spb_defs::{Command, Reply, What};

@@ -1,4 +1,5 @@
-ghost use Rattle.std.specs.Prelude.{◌≡◌, [], ◌∷◌, map};
+ghost use Rattle.std.specs.Prelude.{◌≡◌, [], ◌∷◌, map, IfSome, IsTrue};
+ghost use Rattle.metrics_builtin.specs.Space.{fits};
 ghost use Rattle.std.specs.String.{string_bytes};
 ghost use Rattle.spb_defs.specs.Words.{space_in, space_of};
 
@@ -10,7 +11,8 @@ use object_text::number;
 ///
 /// It is nothing where the words are others, and where no such space fits. It takes no memory.
 pub fn read_words(words: &[String]) -> Option<Space>
-    ensures { result ≡ space_of (map string_bytes words.now) }
+    ensures exact { result ≡ space_of (map string_bytes words.now) }
+    ensures fits { IfSome result (λ space. IsTrue (fits space)) }
 {
     match words {
         [name, kind, first, second] => space_by(
@@ -26,7 +28,8 @@ pub fn read_words(words: &[String]) -> Option<Space>
 /// The space that four words ask for.
 #[tactic(auto, unfolding(spb_defs::specs::Words::space_of))]
 fn space_by(name: &[u8], kind: &[u8], first: &[u8], second: &[u8]) -> Option<Space>
-    ensures { result ≡ space_of (name.now ∷ kind.now ∷ first.now ∷ second.now ∷ []) }
+    ensures exact { result ≡ space_of (name.now ∷ kind.now ∷ first.now ∷ second.now ∷ []) }
+    ensures fits { IfSome result (λ space. IsTrue (fits space)) }
 {
     if name == b"mem".as_slice() {
         space(kind, first, second)
@@ -37,7 +40,8 @@ fn space_by(name: &[u8], kind: &[u8], first: &[u8], second: &[u8]) -> Option<Spa
 
 /// The space of a kind and its two parameters.
 fn space(kind: &[u8], first: &[u8], second: &[u8]) -> Option<Space>
-    ensures { result ≡ space_in kind.now first.now second.now }
+    ensures exact { result ≡ space_in kind.now first.now second.now }
+    ensures fits { IfSome result (λ space. IsTrue (fits space)) }
 {
     if kind != b"l1".as_slice() {
         return None;

@@ -1,15 +1,14 @@
 -- The text of a vector, read from the left: what the components so far leave to be read.
-use Rattle.std.proofs.Common.{◌≡◌, ℕ, ◌+◌, ◌*◌, ◌^◌, ◌<◌, ◌≤◌, ◌==◌, Bool, true, false, cond, List, [], ◌∷◌, ◌++◌, length, get_or, take, drop, refl, sym, ap, subst, ◌∙◌, arith, Option, Some, None, nat_le, nat_lt, append_assoc, zero, suc}
+use Rattle.std.proofs.Common.{◌≡◌, ℕ, ◌+◌, ◌*◌, ◌<◌, ◌≤◌, ◌==◌, Bool, true, false, cond, List, [], ◌∷◌, ◌++◌, length, get_or, take, drop, refl, sym, ap, subst, ◌∙◌, arith, Option, Some, None, nat_le, append_assoc, suc}
 use Rattle.std.specs.Prelude.{option_and_then, All}
-use Rattle.std.specs.Int.{w32, to_be_bytes, IsInRange}
+use Rattle.std.specs.Int.{w32, to_be_bytes}
 use Rattle.std.specs.List.{slice_split, position, flat_map, count_by}
-use Rattle.std.specs.Str.Parse.{AllDigits, digits_value}
 use Rattle.std.proofs.lemmas.Bool.Decides.{nat_tests}
 use Rattle.std.proofs.lemmas.List.{length-append, append-nil}
 use Rattle.std.proofs.lemmas.List.Elements.{All-from_get_or, All-cons}
 use Rattle.std.proofs.lemmas.Grind.{flat_map-append}
 use Rattle.std.proofs.lemmas.List.Splits.{slice_split_none, length-slice_split}
-use Rattle.std.proofs.lemmas.Option.{option_and_then_some, cond_some}
+use Rattle.std.proofs.lemmas.Option.{cond_some}
 use Rattle.std.proofs.lemmas.Str.Parse.{digit_at}
 use Rattle.metrics_builtin.specs.declared.Space.{Space}
 use Rattle.metrics_builtin.specs.declared.Space.TheVariants.{L1}
@@ -18,12 +17,12 @@ use Rattle.metrics_builtin.specs.Vectors.{spelled, IsVector}
 use Rattle.metrics_builtin.specs.VectorLaws.{IsVector-spelled, length-spelled}
 use Rattle.spb_defs.specs.Numbers.{number_of, at_most, number_within}
 use Rattle.spb_defs.specs.ObjectText.{numbers_within, vector_with, object_of}
-use Rattle.object_text.proofs.Numerals.{IsPlain, number_of-some}
+use Rattle.object_text.proofs.Numerals.{number_of-some}
 use Rattle.object_text.proofs.Cuts.{split-none, split-some}
 
 -- ---- a number of at most a bound
 
-at_most-some : (bound n : ℕ) (read : Option ℕ) → at_most bound read ≡ Some n → (read ≡ Some n) × (n ≤ bound)
+pub at_most-some : (bound n : ℕ) (read : Option ℕ) → at_most bound read ≡ Some n → (read ≡ Some n) × (n ≤ bound)
 at_most-some bound n None e = absurd (cc)
 at_most-some bound n (Some m) e =
     let test = cond_some (nat_le m bound) m n e in
@@ -46,19 +45,19 @@ number_within-whole bound n word e =
 -- ---- numbers of at most a bound
 
 -- what is read of the first word and of the rest
-record IsConsed (first : Option ℕ) (others : Option (List ℕ)) (ns : List ℕ) : Type 0 where
-  number : ℕ
-  numbers : List ℕ
-  here : first ≡ Some number
-  behind : others ≡ Some numbers
-  both : ns ≡ number ∷ numbers
+pub record IsConsed (first : Option ℕ) (others : Option (List ℕ)) (ns : List ℕ) : Type 0 where
+  pub number : ℕ
+  pub numbers : List ℕ
+  pub here : first ≡ Some number
+  pub behind : others ≡ Some numbers
+  pub both : ns ≡ number ∷ numbers
 
-consed : (first : Option ℕ) (others : Option (List ℕ)) (ns : List ℕ) → option_and_then (λ n. option_and_then (λ ms. Some (n ∷ ms)) others) first ≡ Some ns → IsConsed first others ns
+pub consed : (first : Option ℕ) (others : Option (List ℕ)) (ns : List ℕ) → option_and_then (λ n. option_and_then (λ ms. Some (n ∷ ms)) others) first ≡ Some ns → IsConsed first others ns
 consed None others ns e = absurd (cc)
 consed (Some n) None ns e = absurd (cc)
 consed (Some n) (Some ms) ns e = record { number = n; numbers = ms; here = refl; behind = refl; both = cc }
 
-nil_some : (ns : List ℕ) → ◌≡◌ {A = Option (List ℕ)} (Some []) (Some ns) → ns ≡ []
+pub nil_some : (ns : List ℕ) → ◌≡◌ {A = Option (List ℕ)} (Some []) (Some ns) → ns ≡ []
 nil_some ns e = cc
 
 pub length-numbers_within : (bound : ℕ) (words : List (List ℕ)) (ns : List ℕ) → numbers_within bound words ≡ Some ns → length ns ≡ length words

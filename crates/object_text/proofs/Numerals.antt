@@ -35,7 +35,7 @@ one_zero : (n : ℕ) → n < 2 ^ 64 → get_or (decimal n) 0 0 ≡ 48 → length
 one_zero zero small e = ap length (decimal_digit 0 (omega arith))
 one_zero (suc n) small e = absurd (let past : 48 < get_or (decimal (suc n)) 0 0 = first_decimal (suc n) (omega arith) small in omega arith)
 
-plain_decimal : (word : List ℕ) (n : ℕ) → n < 2 ^ 64 → decimal n ≡ word → n ≡ digits_value 10 word → IsPlain word
+pub plain_decimal : (word : List ℕ) (n : ℕ) → n < 2 ^ 64 → decimal n ≡ word → n ≡ digits_value 10 word → IsPlain word
 plain_decimal word n small same value =
     let numeral : IsNumeral 10 word = subst (IsNumeral 10) same (decimal_is_IsNumeral n small).0 in
     record {

@@ -1,5 +1,6 @@
 -- What a run says of its input, its output and its status.
-use Rattle.std.specs.Prelude.{◌≡◌, ℕ, ◌<◌, ◌≤◌, ◌^◌, List, [], length, take, Option, IfSome}
+use Rattle.std.specs.Prelude.{◌≡◌, ◌↔◌, ℕ, ◌<◌, ◌≤◌, ◌^◌, List, [], length, take, Option, Some, None, IfSome}
+use Rattle.metrics_builtin.specs.declared.Space.{Space}
 use Rattle.spb_edge.specs.Told.{told_then}
 use Rattle.spb_edge.specs.Fault.{Rose}
 use Rattle.spb_edge.specs.declared.reader.EdgeError.{EdgeError}
@@ -64,3 +65,12 @@ abbrev pub stopped_by : EdgeError → Status
 stopped_by edge.ReadFault = ReadFault
 stopped_by edge.InputLimit = InputLimit
 stopped_by edge.Memory = NoMemory
+
+-- the words are in the grammar exactly where the run doesn't end as Usage
+abbrev pub Asks : Option Space → Status → Type 0
+Asks asked status = (status ≡ Usage) ↔ (asked ≡ None)
+
+-- no fault was counted, and the input was told and within the limit: then the work was done, or memory ran out
+abbrev pub Completes : Status → Option Space → Faults → Option (List ℕ) → Type 0
+Completes status asked faults told = (space : Space) → asked ≡ Some space → (script : List ℕ) → told ≡ Some script → length script ≤ 2 ^ 30
+    → (Rose faults.source_before faults.source_now → ⊥) → (Rose faults.sink_before faults.sink_now → ⊥) → IsDoneOrNoMemory status

@@ -2,7 +2,8 @@
 #![tactic(auto)]
 
 mod memory;
-mod run;
+mod top;
 mod status;
 
+pub use top::run;
 pub use status::{Status, code, status_line};

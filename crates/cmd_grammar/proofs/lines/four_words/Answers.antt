@@ -1,4 +1,3 @@
-use Rattle.std.proofs.Common.{◌≡◌}
 use Rattle.cmd_grammar.proofs.FourWords.{five_words}
 use Rattle.cmd_grammar.proofs.lines.four_words.Goals as goal
 

@@ -1,4 +1,4 @@
-use Rattle.std.proofs.Common.{◌≡◌, ◌∷◌, [], List, ℕ}
+use Rattle.std.proofs.Common.{◌∷◌, []}
 use Rattle.cmd_grammar.proofs.FourWords.{command_of-other, command_of-words}
 use Rattle.cmd_grammar.proofs.lines.read_command.Goals as goal
 

@@ -1,4 +1,4 @@
-use Rattle.std.proofs.Common.{◌≡◌, ◌<◌, ℕ, List, length, get_or, refl, sym, ◌∙◌, arith, rules}
+use Rattle.std.proofs.Common.{sym, ◌∙◌, rules}
 use Rattle.object_text.proofs.Numerals.{number_of-empty, number_of-zero, number_of-spare_zero, number_of-digits}
 use Rattle.object_text.proofs.numbers.value_of.Goals as goal
 

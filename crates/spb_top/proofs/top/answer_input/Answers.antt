@@ -2,7 +2,7 @@ use Rattle.std.proofs.Common.{rules}
 use Rattle.spb_edge.specs.Reader.{unread}
 use Rattle.spb_top.specs.Run.{EndsInput}
 use Rattle.spb_top.proofs.Running.{EndsInput-left}
-use Rattle.spb_top.proofs.run.answer_input.Goals as goal
+use Rattle.spb_top.proofs.top.answer_input.Goals as goal
 
 pub returns-clause-input : goal.returns-clause-input
 returns-clause-input g c =

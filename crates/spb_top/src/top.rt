@@ -10,7 +10,7 @@ ghost use Rattle.spb_defs.specs.ReplyText.{reply_text};
 ghost use Rattle.spb_defs.specs.Play.{play};
 ghost use Rattle.spb_defs.specs.Words.{space_of};
 ghost use Rattle.spb_top.specs.Memory.{state_of, HasValidObjects};
-ghost use Rattle.spb_top.specs.Run.{Writes, EndsInput, HasCause, IsDoneOrNoMemory, stopped_by};
+ghost use Rattle.spb_top.specs.Run.{Asks, Writes, EndsInput, HasCause, Completes, stopped_by};
 
 use crate::memory::Store;
 use crate::status::Status;
@@ -107,5 +107,50 @@ fn stopped(e: EdgeError) -> Status
         EdgeError::ReadFault => Status::ReadFault,
         EdgeError::InputLimit => Status::InputLimit,
         EdgeError::Memory => Status::NoMemory,
+    }
+}
+
+/// Does what the words ask for, and says how it ended.
+///
+/// The words are those after the program's name. `mem l1 DIM MOST` answers a script in memory: it
+/// reads the lines of `input` to its end, from an empty store of vectors of `DIM` components from 0 to
+/// `MOST`, and puts the reply to each into `output` before it reads the next. All other words are
+/// [`Status::Usage`]. No call is made on the disk.
+///
+/// Each line is passed over a few times. An addition takes time in the logarithm of the number of
+/// objects, and a range passes over the objects of one collection once.
+pub fn run<S: Source, K: Sink, D: Disk>(
+    alloc: Global,
+    words: &[String],
+    input: &mut S,
+    output: &mut K,
+    disk: &mut D,
+) -> Status
+    // It ends as Usage exactly where the words aren't in the grammar.
+    ensures words { Asks (space_of (map string_bytes words.now)) result }
+
+    // What is written is what scanning all objects gives: all of it on Done, nothing on Usage, and a front
+    // of it on every other status, however the input is cut into pieces.
+    ensures text { (space : Space) → space_of (map string_bytes words.now) ≡ Some space
+        → (script : List ℕ) → S.left input.old ≡ Some script
+        → Writes result (K.taken output.old) (K.taken output.new) (play (empty_in_memory space) script) }
+    ensures usage { result ≡ Status.Usage → (input.new ≡ input.old) × (output.new ≡ output.old) }
+    ensures input { EndsInput result (S.left input.new) }
+
+    // Each status has its cause, and where none of the causes is there the work is done.
+    ensures cause { HasCause result
+        (record { source_before = S.faults input.old; source_now = S.faults input.new;
+            sink_before = K.faults output.old; sink_now = K.faults output.new })
+        (S.left input.old) }
+    ensures complete { Completes result (space_of (map string_bytes words.now))
+        (record { source_before = S.faults input.old; source_now = S.faults input.new;
+            sink_before = K.faults output.old; sink_now = K.faults output.new })
+        (S.left input.old) }
+
+    ensures disk { disk.new ≡ disk.old }
+{
+    match read_words(words) {
+        Some(Space::L1 { dim, most }) => answer_input(alloc, L1 { dim, most }, input, output),
+        None => Status::Usage,
     }
 }

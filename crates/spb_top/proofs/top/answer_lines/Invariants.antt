@@ -4,7 +4,7 @@ use Rattle.spb_edge.specs.Reader.{budget}
 use Rattle.spb_defs.specs.State.{empty_in_memory}
 use Rattle.spb_top.specs.Memory.{state_of}
 use Rattle.spb_top.proofs.Running.{Answering}
-use Rattle.spb_top.proofs.run.answer_lines.Given as goal
+use Rattle.spb_top.proofs.top.answer_lines.Given as goal
 
 abbrev pub invariant-loop-line : goal.invariant-loop-line
 invariant-loop-line g l =

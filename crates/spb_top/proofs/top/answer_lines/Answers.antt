@@ -6,7 +6,7 @@ use Rattle.spb_edge.specs.Reader.{unread, rest, taken, faults}
 use Rattle.spb_defs.specs.State.{empty_in_memory}
 use Rattle.spb_top.specs.Memory.{state_of, HasValidObjects}
 use Rattle.spb_top.proofs.Running.{Answering, Answering-line, front_so_far, front_of_reply, front_stopped, cause_stopped, Rose-later}
-use Rattle.spb_top.proofs.run.answer_lines.Goals as goal
+use Rattle.spb_top.proofs.top.answer_lines.Goals as goal
 
 pub returns-in-Err-clause-text : goal.returns-in-Err-clause-text
 returns-in-Err-clause-text g c =
