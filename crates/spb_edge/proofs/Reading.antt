@@ -49,7 +49,7 @@ pub IsNextLine-end : (limit : ℕ) (bytes : List ℕ) (old new : Option (List �
 IsNextLine-end limit bytes old None none nothing front = subst (λ o. IsNextLine limit End o None) (sym front) tt
 IsNextLine-end limit bytes old (Some after) none nothing front =
     let both : IsFirstOf End (lines_of limit (bytes ++ after)) (lines_of limit after) =
-        (ap (λ xs. lines_of limit (xs ++ after)) none ∙ ap (lines_of limit) nothing ∙ lines_of-nil limit, ap (lines_of limit) nothing ∙ lines_of-nil limit) in
+    (ap (λ xs. lines_of limit (xs ++ after)) none ∙ ap (lines_of limit) nothing ∙ lines_of-nil limit, ap (lines_of limit) nothing ∙ lines_of-nil limit) in
     subst (λ o. IsNextLine limit End o (Some after)) (sym front) both
 
 -- ---- one look at the unread bytes, and one take
@@ -85,13 +85,13 @@ module _ {S : Type 0} {G : Ghosts S} where
   TakesOff-scan : (old now new : LineReader S G) (front bytes : List ℕ) → TakesOff old now front → unread now ≡ bytes ++ unread new → new.source.now ≡ now.source.now → taken new ≡ taken now → TakesOff old new (front ++ bytes)
   TakesOff-scan old now new front bytes off cut same total =
       let at : rest now ≡ before_told bytes (rest new) =
-          ap (λ xs. before_told xs (G.left now.source.now)) cut ∙ before_told-append bytes (unread new) (G.left now.source.now)
-          ∙ ap (λ s. before_told bytes (before_told (unread new) (G.left s))) (sym same) in
+      ap (λ xs. before_told xs (G.left now.source.now)) cut ∙ before_told-append bytes (unread new) (G.left now.source.now)
+      ∙ ap (λ s. before_told bytes (before_told (unread new) (G.left s))) (sym same) in
       let long : length (unread now) ≡ length bytes + length (unread new) = ap length cut ∙ length-append bytes (unread new) in
       let both : length (front ++ bytes) ≡ length front + length bytes = length-append front bytes in
       let counted = off.count in record {
         front = off.front ∙ ap (before_told front) at ∙ sym (before_told-append front bytes (rest new));
-        count = omega arith
+        count = omega arith;
       }
 
   -- a line that an LF ends
@@ -105,8 +105,8 @@ module _ {S : Type 0} {G : Ghosts S} where
 
   -- a line that goes on behind all that was unread
   pub goes_on : (limit : ℕ) (old now seen new : LineReader S G) (line longer : Line) (front : List ℕ) → InLine limit old now line front → Scans limit line (Ok (Open longer)) now seen → seen.source.now ≡ now.source.now → taken seen ≡ taken now
-    → rest new ≡ rest seen → taken new ≡ taken seen + length (unread new)
-    → TakesOff old new (front ++ unread now) × HasNoLf (front ++ unread now) × (longer ≡ line_of limit (front ++ unread now))
+      → rest new ≡ rest seen → taken new ≡ taken seen + length (unread new)
+      → TakesOff old new (front ++ unread now) × HasNoLf (front ++ unread now) × (longer ≡ line_of limit (front ++ unread now))
   goes_on limit old now seen new line longer front so (none, empty, long) same total stays more =
       let cut : unread now ≡ unread now ++ unread seen = sym (ap (λ xs. unread now ++ xs) empty ∙ append-nil (unread now)) in
       let off = TakesOff-scan old now seen front (unread now) so.off cut same total in
@@ -133,7 +133,7 @@ empty_from_length (x ∷ xs) e = absurd (omega arith)
 -- the end of the stream, behind a line that no LF ended
 pub at_end : (limit : ℕ) (line closed : Line) (front : List ℕ) (left : Option (List ℕ)) → HasNoLf front → line ≡ line_of limit front → Closes limit line closed → NothingLeft left → Spells limit (Ok closed) front left
 at_end limit line closed front left none is closes nothing = elim (closes front is) [
-  inl e ↦ subst (λ l. Spells limit (Ok l) front left) (sym e.1) (empty_from_length front e.0, nothing)
+  | inl e ↦ subst (λ l. Spells limit (Ok l) front left) (sym e.1) (empty_from_length front e.0, nothing)
   | inr l ↦ Spells-from_line limit closed front left (front, none, l.1, inr (refl, l.0, nothing))
 ]
 
@@ -169,8 +169,8 @@ IsNextLine-closed limit End front old new at = IsNextLine-end limit front old ne
 module _ {S : Type 0} {G : Ghosts S} where
   -- the stream ended behind the line so far
   pub at_stream_end : (limit : ℕ) (old now seen new : LineReader S G) (line longer closed : Line) (front : List ℕ) → InLine limit old now line front → Scans limit line (Ok (Open longer)) now seen → seen.source.now ≡ now.source.now → taken seen ≡ taken now
-    → Refills (Ok false) seen new → Closes limit longer closed
-    → (bytes : List ℕ) × TakesOff old new bytes × Spells limit (Ok closed) bytes (rest new)
+      → Refills (Ok false) seen new → Closes limit longer closed
+      → (bytes : List ℕ) × TakesOff old new bytes × Spells limit (Ok closed) bytes (rest new)
   at_stream_end limit old now seen new line longer closed front so sees same total left closes =
       let rests = Refills-rest (Ok false) seen new left in
       let on = goes_on limit old now seen new line longer front so sees same total rests.0 rests.1 in
@@ -179,7 +179,7 @@ module _ {S : Type 0} {G : Ghosts S} where
 
   -- more came behind the line so far
   pub more_came : (limit : ℕ) (old now seen new : LineReader S G) (line longer : Line) (front : List ℕ) → InLine limit old now line front → Scans limit line (Ok (Open longer)) now seen → seen.source.now ≡ now.source.now → taken seen ≡ taken now
-    → Refills (Ok true) seen new → (bytes : List ℕ) × InLine limit old new longer bytes
+      → Refills (Ok true) seen new → (bytes : List ℕ) × InLine limit old new longer bytes
   more_came limit old now seen new line longer front so sees same total left =
       let on = goes_on limit old now seen new line longer front so sees same total left.0 left.2 in
       let counted : faults old ≤ faults now = so.counted in

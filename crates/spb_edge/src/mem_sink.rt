@@ -23,7 +23,12 @@ impl Model for MemSink {
     ghost Value = { Kept };
 
     ghost view = { λ s. record {
-        taken = s.taken.items; room = s.room; failing = s.failing.items; calls = s.calls; faults = s.faults } };
+      taken = s.taken.items;
+      room = s.room;
+      failing = s.failing.items;
+      calls = s.calls;
+      faults = s.faults;
+    } };
 
     ghost invariant = { λ s. (vec_len s.taken ≤ s.room) × (s.room ≤ vec_capacity s.taken) };
 }

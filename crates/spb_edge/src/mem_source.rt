@@ -24,7 +24,12 @@ impl Model for MemSource {
     ghost Value = { Held };
 
     ghost view = { λ s. record {
-        left = drop s.at s.bytes; piece = s.piece; failing = s.failing.items; calls = s.calls; faults = s.faults } };
+      left = drop s.at s.bytes;
+      piece = s.piece;
+      failing = s.failing.items;
+      calls = s.calls;
+      faults = s.faults;
+    } };
 
     ghost invariant = { λ s. (s.at ≤ length s.bytes) × (0 < s.piece) };
 }
@@ -32,7 +37,12 @@ impl Model for MemSource {
 impl MemSource {
     /// A source of a copy of `bytes` that gives at most `piece` of them at a time, which is at least
     /// 1. Calls are numbered from 1, and those whose number is in `failing` fail; no other call does.
-    pub fn new(alloc: Global, bytes: &[u8], piece: usize, failing: &[u64]) -> Result<MemSource, Memory>
+    pub fn new(
+        alloc: Global,
+        bytes: &[u8],
+        piece: usize,
+        failing: &[u64],
+    ) -> Result<MemSource, Memory>
         requires { 0 < piece }
         ensures { IfOk result (λ source. IsHeld source bytes.now piece failing.now) }
     {

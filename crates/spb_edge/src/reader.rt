@@ -1,6 +1,5 @@
 //! The lines of a stream, in whatever pieces it comes.
 ghost use Rattle.std.specs.Prelude.{◌≡◌, ℕ, ◌+◌, ◌-◌, ◌^◌, ◌<◌, ◌≤◌, List, [], ◌++◌, length, IfOk, IsOk, IsTrue, ◌↔◌};
-
 ghost use Rattle.spb_edge.specs.Source.{Gives, IsWithin, CountsFault};
 
 use crate::{Bytes, Memory, Source, Take};
@@ -119,7 +118,19 @@ pub struct LineReader<'a, S: Source> {
 
 impl<'a, S: Source> LineReader<'a, S> {
     ghost use Rattle.spb_edge.specs.Reader.{
-        unread, rest, taken, faults, budget, TakesOff, Spells, IsNextLine, HasCause, LowersBudget, Refills, Scans};
+      unread,
+      rest,
+      taken,
+      faults,
+      budget,
+      TakesOff,
+      Spells,
+      IsNextLine,
+      HasCause,
+      LowersBudget,
+      Refills,
+      Scans,
+    };
 
     /// A reader at the front of what the source has left. It takes no memory.
     pub fn new(_alloc: Global, source: &'a mut S) -> Result<LineReader<'a, S>, Memory>

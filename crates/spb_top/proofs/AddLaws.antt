@@ -23,7 +23,7 @@ add_full s c id object new full =
     let no_room : is_full s ≡ true = grind (arith, nat_tests) in (
       ap (λ b. if b then Exists else (if is_full s then Full else Done)) new ∙ ap (λ b. if b then Full else Done) no_room,
       ap (λ (b : Bool). if b then s else (if is_full s then s else record s { members = with_object s.members c id object })) new
-      ∙ ap (λ (b : Bool). if b then s else record s { members = with_object s.members c id object }) no_room,
+          ∙ ap (λ (b : Bool). if b then s else record s { members = with_object s.members c id object }) no_room,
     )
 
 -- the object is added
@@ -33,5 +33,5 @@ add_new s c id object new room =
     let some_room : is_full s ≡ false = grind (arith, nat_tests) in (
       ap (λ b. if b then Exists else (if is_full s then Full else Done)) new ∙ ap (λ b. if b then Full else Done) some_room,
       ap (λ (b : Bool). if b then s else (if is_full s then s else record s { members = with_object s.members c id object })) new
-      ∙ ap (λ (b : Bool). if b then s else record s { members = with_object s.members c id object }) some_room,
+          ∙ ap (λ (b : Bool). if b then s else record s { members = with_object s.members c id object }) some_room,
     )

@@ -41,9 +41,9 @@ and-true false = refl
 pub in_collection : (c : ℕ) (key : Key) → range_contains key_cmp (Included (c, 0)) (Excluded (c + 1, 0)) key ≡ (key.0 == c)
 in_collection c key =
     let start : is_le (key_cmp (c, 0) key) ≡ (nat_lt c key.0 || (c == key.0)) =
-        is_le-key c key.0 0 key.1 ∙ ap (λ b. nat_lt c key.0 || ((c == key.0) && b)) (low key.1) ∙ ap (λ b. nat_lt c key.0 || b) (and-true (c == key.0)) in
+    is_le-key c key.0 0 key.1 ∙ ap (λ b. nat_lt c key.0 || ((c == key.0) && b)) (low key.1) ∙ ap (λ b. nat_lt c key.0 || b) (and-true (c == key.0)) in
     let past : is_le (key_cmp (c + 1, 0) key) ≡ (nat_lt (c + 1) key.0 || (c + 1 == key.0)) =
-        is_le-key (c + 1) key.0 0 key.1 ∙ ap (λ b. nat_lt (c + 1) key.0 || ((c + 1 == key.0) && b)) (low key.1) ∙ ap (λ b. nat_lt (c + 1) key.0 || b) (and-true (c + 1 == key.0)) in
+    is_le-key (c + 1) key.0 0 key.1 ∙ ap (λ b. nat_lt (c + 1) key.0 || ((c + 1 == key.0) && b)) (low key.1) ∙ ap (λ b. nat_lt (c + 1) key.0 || b) (and-true (c + 1 == key.0)) in
     ap (λ b. b && not (is_le (key_cmp (c + 1, 0) key))) start ∙ ap (λ b. (nat_lt c key.0 || (c == key.0)) && not b) past ∙ one_collection c key.0
 
 -- ---- the rows behind the first member
@@ -141,7 +141,7 @@ Scanning-start space c members left query radius ids is few none valid =
       counted = omega (arith, ap length rows);
       few = omega (arith, ap length rows);
       inside = subst Inside (sym is) inside;
-      valid = subst (HasValidObjects space) (sym is) (valid-filter space test members valid)
+      valid = subst (HasValidObjects space) (sym is) (valid-filter space test members valid);
     }
 
 -- the rows of what is left, at its first member
@@ -155,8 +155,8 @@ Scanning-valid space c members left query radius ids count e es scanning is =
 
 -- one member more, whose id is found or not
 pub Scanning-more : (space : Space) (c : ℕ) (members left : Members) (query : List ℕ) (radius : ℕ) (ids more : List ℕ) (count : ℕ) (e : Key × List ℕ) (es : Members) → Scanning space c members left query radius ids count → left ≡ e ∷ es
-  → scan_range (dist space) ((e.0.1, e.1) ∷ rows_of es c) query radius ≡ more ++ scan_range (dist space) (rows_of es c) query radius
-  → Scanning space c members es query radius (ids ++ more) (count + 1)
+    → scan_range (dist space) ((e.0.1, e.1) ∷ rows_of es c) query radius ≡ more ++ scan_range (dist space) (rows_of es c) query radius
+    → Scanning space c members es query radius (ids ++ more) (count + 1)
 Scanning-more space c members left query radius ids more count e es scanning is scans =
     let Inside : Members → Type 0 = All (λ (e : Key × List ℕ). (e.0.0 == c) ≡ true) in
     let all : Inside (e ∷ es) = subst Inside is scanning.inside in
@@ -171,28 +171,28 @@ Scanning-more space c members left query radius ids more count e es scanning is 
       counted = omega arith;
       few = few;
       inside = All-tail (λ (e : Key × List ℕ). (e.0.0 == c) ≡ true) e es all;
-      valid = All-tail (IsValid space) e.1 (values_of es) (subst (HasValidObjects space) is scanning.valid)
+      valid = All-tail (IsValid space) e.1 (values_of es) (subst (HasValidObjects space) is scanning.valid);
     }
 
 -- the member is within the radius, and its id stands behind those found
 pub Scanning-found : (space : Space) (c : ℕ) (members left : Members) (query : List ℕ) (radius : ℕ) (ids ids' : List ℕ) (count : ℕ) (e : Key × List ℕ) (es : Members) (object : List ℕ) (measured : ℕ) → Scanning space c members left query radius ids count → left ≡ e ∷ es
-  → object ≡ e.1 → measured ≡ dist space query object → measured ≤ radius → ids' ≡ ids ++ e.0.1 ∷ [] → Scanning space c members es query radius ids' (count + 1)
+    → object ≡ e.1 → measured ≡ dist space query object → measured ≤ radius → ids' ≡ ids ++ e.0.1 ∷ [] → Scanning space c members es query radius ids' (count + 1)
 Scanning-found space c members left query radius ids ids' count e es object measured scanning is same measures within found =
     let near : dist space query e.1 ≤ radius = omega (arith, measures, ap (dist space query) same) in
     subst (λ xs. Scanning space c members es query radius xs (count + 1)) (sym found)
-      (Scanning-more space c members left query radius ids (e.0.1 ∷ []) count e es scanning is (scan_range-in (dist space) (e.0.1, e.1) (rows_of es c) query radius near))
+    (Scanning-more space c members left query radius ids (e.0.1 ∷ []) count e es scanning is (scan_range-in (dist space) (e.0.1, e.1) (rows_of es c) query radius near))
 
 -- the member is past the radius
 pub Scanning-passed : (space : Space) (c : ℕ) (members left : Members) (query : List ℕ) (radius : ℕ) (ids : List ℕ) (count : ℕ) (e : Key × List ℕ) (es : Members) (object : List ℕ) (measured : ℕ) → Scanning space c members left query radius ids count → left ≡ e ∷ es
-  → object ≡ e.1 → measured ≡ dist space query object → radius < measured → Scanning space c members es query radius ids (count + 1)
+    → object ≡ e.1 → measured ≡ dist space query object → radius < measured → Scanning space c members es query radius ids (count + 1)
 Scanning-passed space c members left query radius ids count e es object measured scanning is same measures past =
     let far : radius < dist space query e.1 = omega (arith, measures, ap (dist space query) same) in
     subst (λ xs. Scanning space c members es query radius xs (count + 1)) (append-nil ids)
-      (Scanning-more space c members left query radius ids [] count e es scanning is (scan_range-out (dist space) (e.0.1, e.1) (rows_of es c) query radius far))
+    (Scanning-more space c members left query radius ids [] count e es scanning is (scan_range-out (dist space) (e.0.1, e.1) (rows_of es c) query radius far))
 
 -- at the end all is found and counted
 pub Scanning-end : (space : Space) (c : ℕ) (members left : Members) (query : List ℕ) (radius : ℕ) (ids : List ℕ) (count : ℕ) → Scanning space c members left query radius ids count → left ≡ []
-  → (ids ≡ scan_range (dist space) (rows_of members c) query radius) × (count ≡ length (rows_of members c))
+    → (ids ≡ scan_range (dist space) (rows_of members c) query radius) × (count ≡ length (rows_of members c))
 unfolding scan_range rows_of
 Scanning-end space c members left query radius ids count scanning is =
     let counted = scanning.counted in

@@ -51,7 +51,7 @@ module _ {S K : Type 0} (G : source.Ghosts S) (H : sink.Ghosts K) where
     total = omega arith;
     source = omega arith;
     sink_faults = omega arith;
-    valid = valid
+    valid = valid;
   }
 
 -- ---- what is left, from line to line
@@ -82,7 +82,7 @@ unread_in front left (Some rest) at = let long = ap length (some_is at) in omega
 module _ {S : Type 0} {G : source.Ghosts S} where
   -- the count of what was taken and what is left, after a call
   counts_off : (script left bytes : List ℕ) (now new : LineReader S G) → rest now ≡ Some left → taken now + length left ≡ length (unread now) + length script → TakesOff now new bytes
-    → (left' : List ℕ) × (rest new ≡ Some left') × (left ≡ bytes ++ left') × (taken new + length left' ≡ length (unread new) + length script) × (length (unread new) ≤ length left')
+      → (left' : List ℕ) × (rest new ≡ Some left') × (left ≡ bytes ++ left') × (taken new + length left' ≡ length (unread new) + length script) × (length (unread new) ≤ length left')
   counts_off script left bytes now new told count off =
       let at = taken_off left bytes (rest new) (sym told ∙ off.front) in
       let long = ap length at.2 in
@@ -126,16 +126,16 @@ WritesFront-of old new written more text wrote whole =
 module _ {S K : Type 0} (G : source.Ghosts S) (H : sink.Ghosts K) where
   -- what was written so far is a front of the replies to the script
   pub front_so_far : (first : State) (reader : LineReader S G) (output : K) (now : LineReader S G) (sink : K) (state : State) (written : List ℕ) → Answering G H first reader output now sink state written
-    → (script : List ℕ) → rest reader ≡ Some script → WritesFront (H.taken output) (H.taken sink) (play first script)
+      → (script : List ℕ) → rest reader ≡ Some script → WritesFront (H.taken output) (H.taken sink) (play first script)
   front_so_far first reader output now sink state written so script told =
       let follows = so.follows script told in
       WritesFront-of (H.taken output) (H.taken sink) written (play_lines state (lines_of LINE_LIMIT follows.0)) (play first script) so.wrote follows.2.text
 
   -- one line was answered
   pub Answering-line : (first : State) (reader : LineReader S G) (output : K) (now : LineReader S G) (sink : K) (state : State) (written : List ℕ) → Answering G H first reader output now sink state written
-    → (new : LineReader S G) (sink' : K) (state' : State) (line : Line) (text bytes : List ℕ) → (line ≡ End → ⊥) → IsNextLine LINE_LIMIT line (rest now) (rest new) → TakesOff now new bytes
-    → taken new ≤ 2 ^ 30 → faults now ≤ faults new → text ≡ reply_text (reply state line) → state' ≡ next state line → H.taken sink' ≡ told_then (H.taken sink) text → H.faults sink ≤ H.faults sink' → HasValidObjects state'.space state'.members
-    → Answering G H first reader output new sink' state' (written ++ text)
+      → (new : LineReader S G) (sink' : K) (state' : State) (line : Line) (text bytes : List ℕ) → (line ≡ End → ⊥) → IsNextLine LINE_LIMIT line (rest now) (rest new) → TakesOff now new bytes
+      → taken new ≤ 2 ^ 30 → faults now ≤ faults new → text ≡ reply_text (reply state line) → state' ≡ next state line → H.taken sink' ≡ told_then (H.taken sink) text → H.faults sink ≤ H.faults sink' → HasValidObjects state'.space state'.members
+      → Answering G H first reader output new sink' state' (written ++ text)
   Answering-line first reader output now sink state written so new sink' state' line text bytes not_end comes off total grew replies goes puts grew' valid =
       let sofar = so.source in
       let sofar' = so.sink_faults in record {
@@ -146,10 +146,10 @@ module _ {S K : Type 0} (G : source.Ghosts S) (H : sink.Ghosts K) where
             let count = counts_off script follows.0 bytes now new follows.1 follows.3 off in
             let same : step.0 ≡ count.0 = some_is (sym step.1 ∙ count.1) in
             let more : play_lines state (lines_of LINE_LIMIT follows.0) ≡ text ++ play_lines state' (lines_of LINE_LIMIT count.0) =
-                ap (play_lines state) step.2
-                ∙ ap (λ t. t ++ play_lines (next state line) (lines_of LINE_LIMIT step.0)) (sym replies)
-                ∙ ap (λ s. text ++ play_lines s (lines_of LINE_LIMIT step.0)) (sym goes)
-                ∙ ap (λ l. text ++ play_lines state' (lines_of LINE_LIMIT l)) same in (
+            ap (play_lines state) step.2
+            ∙ ap (λ t. t ++ play_lines (next state line) (lines_of LINE_LIMIT step.0)) (sym replies)
+            ∙ ap (λ s. text ++ play_lines s (lines_of LINE_LIMIT step.0)) (sym goes)
+            ∙ ap (λ l. text ++ play_lines state' (lines_of LINE_LIMIT l)) same in (
               count.0,
               count.1,
               record { text = append_assoc written text (play_lines state' (lines_of LINE_LIMIT count.0)) ∙ ap (λ t. written ++ t) (sym more) ∙ follows.2.text },
@@ -158,41 +158,41 @@ module _ {S K : Type 0} (G : source.Ghosts S) (H : sink.Ghosts K) where
         total = total;
         source = omega arith;
         sink_faults = omega arith;
-        valid = valid
+        valid = valid;
       }
 
   -- a front of a reply was written, and no more
   pub front_of_reply : (first : State) (reader : LineReader S G) (output : K) (now : LineReader S G) (sink : K) (state : State) (written : List ℕ) → Answering G H first reader output now sink state written
-    → (new : LineReader S G) (sink' : K) (line : Line) (text : List ℕ) (n : ℕ) → (line ≡ End → ⊥) → IsNextLine LINE_LIMIT line (rest now) (rest new)
-    → text ≡ reply_text (reply state line) → H.taken sink' ≡ told_then (H.taken sink) (take n text)
-    → (script : List ℕ) → rest reader ≡ Some script → WritesFront (H.taken output) (H.taken sink') (play first script)
+      → (new : LineReader S G) (sink' : K) (line : Line) (text : List ℕ) (n : ℕ) → (line ≡ End → ⊥) → IsNextLine LINE_LIMIT line (rest now) (rest new)
+      → text ≡ reply_text (reply state line) → H.taken sink' ≡ told_then (H.taken sink) (take n text)
+      → (script : List ℕ) → rest reader ≡ Some script → WritesFront (H.taken output) (H.taken sink') (play first script)
   front_of_reply first reader output now sink state written so new sink' line text n not_end comes replies puts script told =
       let follows = so.follows script told in
       let step = next_of line follows.0 (rest new) not_end (subst (λ o. IsNextLine LINE_LIMIT line o (rest new)) follows.1 comes) in
       let behind = play_lines (next state line) (lines_of LINE_LIMIT step.0) in
       let more : play_lines state (lines_of LINE_LIMIT follows.0) ≡ take n text ++ (drop n text ++ behind) =
-          ap (play_lines state) step.2 ∙ ap (λ t. t ++ behind) (sym replies ∙ sym (take-append-drop n text)) ∙ append_assoc (take n text) (drop n text) behind in
+      ap (play_lines state) step.2 ∙ ap (λ t. t ++ behind) (sym replies ∙ sym (take-append-drop n text)) ∙ append_assoc (take n text) (drop n text) behind in
       WritesFront-of (H.taken output) (H.taken sink') (written ++ take n text) (drop n text ++ behind) (play first script)
-        (puts ∙ ap (λ t. told_then t (take n text)) so.wrote ∙ told_then-append (H.taken output) written (take n text))
-        (append_assoc written (take n text) (drop n text ++ behind) ∙ ap (λ t. written ++ t) (sym more) ∙ follows.2.text)
+      (puts ∙ ap (λ t. told_then t (take n text)) so.wrote ∙ told_then-append (H.taken output) written (take n text))
+      (append_assoc written (take n text) (drop n text ++ behind) ∙ ap (λ t. written ++ t) (sym more) ∙ follows.2.text)
 
   -- no line came: the run ends with what stopped the reader
   pub front_stopped : (first : State) (reader : LineReader S G) (output : K) (now : LineReader S G) (sink : K) (state : State) (written : List ℕ) → Answering G H first reader output now sink state written
-    → (e : EdgeError) (status : Status) → status ≡ stopped_by e → (script : List ℕ) → rest reader ≡ Some script → Writes status (H.taken output) (H.taken sink) (play first script)
+      → (e : EdgeError) (status : Status) → status ≡ stopped_by e → (script : List ℕ) → rest reader ≡ Some script → Writes status (H.taken output) (H.taken sink) (play first script)
   front_stopped first reader output now sink state written so e status is script told =
       subst (λ s. Writes s (H.taken output) (H.taken sink) (play first script)) (sym is) (stopped_front _ _ _ e (front_so_far first reader output now sink state written so script told))
 
   -- why the run ends with what stopped the reader
   pub cause_stopped : (first : State) (reader : LineReader S G) (output : K) (now : LineReader S G) (sink : K) (state : State) (written : List ℕ) → Answering G H first reader output now sink state written
-    → (new : LineReader S G) (bytes : List ℕ) → TakesOff now new bytes → (e : EdgeError) (r : Result Line EdgeError) → r ≡ Err e → reads.HasCause r (faults now) (faults new) (taken new) (length (unread new)) → (status : Status) → status ≡ stopped_by e
-    → HasCause status (record { source_before = faults reader; source_now = faults new; sink_before = H.faults output; sink_now = H.faults sink }) (rest reader)
+      → (new : LineReader S G) (bytes : List ℕ) → TakesOff now new bytes → (e : EdgeError) (r : Result Line EdgeError) → r ≡ Err e → reads.HasCause r (faults now) (faults new) (taken new) (length (unread new)) → (status : Status) → status ≡ stopped_by e
+      → HasCause status (record { source_before = faults reader; source_now = faults new; sink_before = H.faults output; sink_now = H.faults sink }) (rest reader)
   cause_stopped first reader output now sink state written so new bytes off e r failed cause status is =
       let here = subst (λ x. reads.HasCause x (faults now) (faults new) (taken new) (length (unread new))) failed cause in
       let count : (script : List ℕ) → rest reader ≡ Some script → (left : List ℕ) × (taken new + length left ≡ length (unread new) + length script) × (length (unread new) ≤ length left) = λ script told.
-          let follows = so.follows script told in
-          let off' = counts_off script follows.0 bytes now new follows.1 follows.3 off in (off'.0, off'.3, off'.4) in
+      let follows = so.follows script told in
+      let off' = counts_off script follows.0 bytes now new follows.1 follows.3 off in (off'.0, off'.3, off'.4) in
       subst (λ s. HasCause s (record { source_before = faults reader; source_now = faults new; sink_before = H.faults output; sink_now = H.faults sink }) (rest reader)) (sym is)
-        (stopped_cause e (faults reader) (faults now) (faults new) (H.faults output) (H.faults sink) (taken new) (unread new) (rest reader) so.source so.sink_faults here count)
+      (stopped_cause e (faults reader) (faults now) (faults new) (H.faults output) (H.faults sink) (taken new) (unread new) (rest reader) so.source so.sink_faults here count)
 
 -- ---- what the reader has left, and what the input has
 

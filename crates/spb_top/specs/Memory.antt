@@ -18,5 +18,5 @@ state_of store = record {
   space = L1 store.metric.dim store.metric.most;
   pivots = [];
   cap = MEMORY_CAP;
-  members = store.members.entries
+  members = store.members.entries;
 }

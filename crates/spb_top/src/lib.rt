@@ -2,8 +2,12 @@
 #![tactic(auto)]
 
 mod memory;
-mod top;
+#[cfg(test)]
+mod plain;
 mod status;
+#[cfg(test)]
+mod tests;
+mod top;
 
-pub use top::run;
 pub use status::{Status, code, status_line};
+pub use top::run;

@@ -91,7 +91,14 @@ impl Store {
         requires query { IsValid (state_of self.now).space query.now }
         ensures reply { IfOk result (λ r. r ≡ reply_to (state_of self.now) (Command.Range c radius query.now)) }
     {
-        let (ids, evals) = within(alloc, &self.metric, &self.members, c, radius, query.as_slice())?;
+        let (ids, evals) = within(
+            alloc,
+            &self.metric,
+            &self.members,
+            c,
+            radius,
+            query.as_slice(),
+        )?;
         Ok(Reply::Range {
             ids,
             evals,

@@ -21,12 +21,7 @@ use spb_edge::{Bytes, Disk, EdgeError, Line, LineReader, Memory, Sink, Source, p
 use std::alloc::Global;
 
 /// Clears the text, and puts the reply to the line there; the store is then as after the line.
-fn respond(
-    store: &mut Store,
-    alloc: Global,
-    line: &Line,
-    text: &mut Bytes,
-) -> Result<(), Memory>
+fn respond(store: &mut Store, alloc: Global, line: &Line, text: &mut Bytes) -> Result<(), Memory>
     requires valid { HasValidObjects (state_of store.old).space store.old.members.entries }
     ensures text { OnOk result (text.new ≡ reply_text (reply (state_of store.old) line.now)) }
     ensures next { OnOk result (state_of store.new ≡ next (state_of store.old) line.now) }
@@ -48,8 +43,12 @@ fn answer_input<S: Source, K: Sink>(
         → Writes result (K.taken output.old) (K.taken output.new) (play (empty_in_memory (Space.L1 metric.dim metric.most)) script) }
     ensures input { EndsInput result (S.left input.new) }
     ensures cause { HasCause result
-        (record { source_before = S.faults input.old; source_now = S.faults input.new;
-            sink_before = K.faults output.old; sink_now = K.faults output.new })
+        (record {
+          source_before = S.faults input.old;
+          source_now = S.faults input.new;
+          sink_before = K.faults output.old;
+          sink_now = K.faults output.new;
+        })
         (S.left input.old) }
     ensures no_usage { result ≢ Status.Usage }
 {
@@ -72,8 +71,12 @@ fn answer_lines<S: Source, K: Sink>(
         → Writes result (K.taken output.old) (K.taken output.new) (play (empty_in_memory (Space.L1 metric.dim metric.most)) script) }
     ensures input { EndsInput result (rest reader.new) }
     ensures cause { HasCause result
-        (record { source_before = faults reader.old; source_now = faults reader.new;
-            sink_before = K.faults output.old; sink_now = K.faults output.new })
+        (record {
+          source_before = faults reader.old;
+          source_now = faults reader.new;
+          sink_before = K.faults output.old;
+          sink_now = K.faults output.new;
+        })
         (rest reader.old) }
     ensures no_usage { result ≢ Status.Usage }
     ensures name { reader.new.source.ghost_name ≡ reader.old.source.ghost_name }
@@ -139,12 +142,20 @@ pub fn run<S: Source, K: Sink, D: Disk>(
 
     // Each status has its cause, and where none of the causes is there the work is done.
     ensures cause { HasCause result
-        (record { source_before = S.faults input.old; source_now = S.faults input.new;
-            sink_before = K.faults output.old; sink_now = K.faults output.new })
+        (record {
+          source_before = S.faults input.old;
+          source_now = S.faults input.new;
+          sink_before = K.faults output.old;
+          sink_now = K.faults output.new;
+        })
         (S.left input.old) }
     ensures complete { Completes result (space_of (map string_bytes words.now))
-        (record { source_before = S.faults input.old; source_now = S.faults input.new;
-            sink_before = K.faults output.old; sink_now = K.faults output.new })
+        (record {
+          source_before = S.faults input.old;
+          source_now = S.faults input.new;
+          sink_before = K.faults output.old;
+          sink_now = K.faults output.new;
+        })
         (S.left input.old) }
 
     ensures disk { disk.new ≡ disk.old }

@@ -12,7 +12,7 @@ loop-key-init c =
       tt,
       tt,
       Scanning-start (L1 c.args.metric.now.dim c.args.metric.now.most) c.args.c c.args.members.now.entries c.into_iter-key-iterator.result c.args.query.now c.args.radius c.in_ok-ids.ids
-        (is ∙ c.range-key-items.ensures.between tt) (omega (arith, c.range-key-items.ensures.fits, ap length is)) c.in_ok-ids.ensures c.requires.valid,
+          (is ∙ c.range-key-items.ensures.between tt) (omega (arith, c.range-key-items.ensures.fits, ap length is)) c.in_ok-ids.ensures c.requires.valid,
     )
 
 pub distance-requires-clause-second : goal.distance-requires-clause-second

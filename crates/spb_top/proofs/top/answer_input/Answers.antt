@@ -8,5 +8,5 @@ pub returns-clause-input : goal.returns-clause-input
 returns-clause-input g c =
     let reader = c.answer_lines.new.reader in
     let ends : EndsInput c.answer_lines.result (g.S.Source.left reader.source.now) =
-        EndsInput-left c.answer_lines.result (unread reader) (g.S.Source.left reader.source.now) c.answer_lines.ensures.input in
+    EndsInput-left c.answer_lines.result (unread reader) (g.S.Source.left reader.source.now) c.answer_lines.ensures.input in
     search (rules, ends)

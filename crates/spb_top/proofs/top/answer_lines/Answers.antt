@@ -16,7 +16,7 @@ pub returns-in-Err-clause-cause : goal.returns-in-Err-clause-cause
 returns-in-Err-clause-cause g c =
     let consumed = c.take_line.ensures.consumed in
     cause_stopped g.S.Source g.K.Sink (empty_in_memory (L1 c.args.metric.dim c.args.metric.most)) c.args.reader.now c.args.output.now c.loop-line.reader c.loop-line.output (state_of c.loop-line.store) _ c.loop-line.invariant.1.1
-      c.take_line.new.self consumed.0 consumed.1 c.in-Err.e c.take_line.result c.in-Err.is c.take_line.ensures.cause c.stopped.result c.stopped.ensures
+    c.take_line.new.self consumed.0 consumed.1 c.in-Err.e c.take_line.result c.in-Err.is c.take_line.ensures.cause c.stopped.result c.stopped.ensures
 
 pub returns-in_default-respond-clause-text : goal.returns-in_default-respond-clause-text
 returns-in_default-respond-clause-text g c =
@@ -27,7 +27,7 @@ returns-in_default-put_all-clause-text g c =
     let not_end : c.in-Ok-take_line.line ≡ End → ⊥ = λ e. false≢true (sym c.if-is_end.false ∙ c.is_end.ensures.1 e) in
     let puts = c.in_default-put_all.ensures.puts in
     front_of_reply g.S.Source g.K.Sink (empty_in_memory (L1 c.args.metric.dim c.args.metric.most)) c.args.reader.now c.args.output.now c.loop-line.reader c.loop-line.output (state_of c.loop-line.store) _ c.loop-line.invariant.1.1
-      c.take_line.new.self c.put_all.new.sink c.in-Ok-take_line.line c.as_slice.result.now puts.0 not_end c.in-Ok-take_line.ensures.line (c.as_slice.ensures ∙ c.in-Ok-respond.ensures.text) puts.2
+    c.take_line.new.self c.put_all.new.sink c.in-Ok-take_line.line c.as_slice.result.now puts.0 not_end c.in-Ok-take_line.ensures.line (c.as_slice.ensures ∙ c.in-Ok-respond.ensures.text) puts.2
 
 pub returns-in_default-put_all-clause-cause : goal.returns-in_default-put_all-clause-cause
 returns-in_default-put_all-clause-cause g c =
@@ -44,9 +44,12 @@ loop-line-preserved-in-Ok-put_all g c =
     let consumed = c.take_line.ensures.consumed in
     let read = c.in-Ok-take_line.ensures.cause in (
       search rules,
-      (_, Answering-line g.S.Source g.K.Sink (empty_in_memory (L1 c.args.metric.dim c.args.metric.most)) c.args.reader.now c.args.output.now c.loop-line.reader c.loop-line.output (state_of c.loop-line.store) _ c.loop-line.invariant.1.1
-        c.take_line.new.self c.put_all.new.sink (state_of c.respond.new.store) c.in-Ok-take_line.line c.as_slice.result.now consumed.0 not_end c.in-Ok-take_line.ensures.line consumed.1
-        read.1 read.0 (c.as_slice.ensures ∙ c.in-Ok-respond.ensures.text) c.in-Ok-respond.ensures.next c.in-Ok-put_all.ensures.puts c.in-Ok-put_all.ensures.fault c.in-Ok-respond.ensures.valid),
+      (
+        _,
+        Answering-line g.S.Source g.K.Sink (empty_in_memory (L1 c.args.metric.dim c.args.metric.most)) c.args.reader.now c.args.output.now c.loop-line.reader c.loop-line.output (state_of c.loop-line.store) _ c.loop-line.invariant.1.1
+            c.take_line.new.self c.put_all.new.sink (state_of c.respond.new.store) c.in-Ok-take_line.line c.as_slice.result.now consumed.0 not_end c.in-Ok-take_line.ensures.line consumed.1
+            read.1 read.0 (c.as_slice.ensures ∙ c.in-Ok-respond.ensures.text) c.in-Ok-respond.ensures.next c.in-Ok-put_all.ensures.puts c.in-Ok-put_all.ensures.fault c.in-Ok-respond.ensures.valid,
+      ),
     )
 
 pub loop-line-preserved : goal.loop-line-preserved
@@ -55,7 +58,10 @@ loop-line-preserved g c =
     let consumed = c.take_line.ensures.consumed in
     let read = c.in-Ok-take_line.ensures.cause in (
       search rules,
-      (_, Answering-line g.S.Source g.K.Sink (empty_in_memory (L1 c.args.metric.dim c.args.metric.most)) c.args.reader.now c.args.output.now c.loop-line.reader c.loop-line.output (state_of c.loop-line.store) _ c.loop-line.invariant.1.1
-        c.take_line.new.self c.put_all.new.sink (state_of c.respond.new.store) c.in-Ok-take_line.line c.as_slice.result.now consumed.0 not_end c.in-Ok-take_line.ensures.line consumed.1
-        read.1 read.0 (c.as_slice.ensures ∙ c.in-Ok-respond.ensures.text) c.in-Ok-respond.ensures.next c.in-Ok-put_all.ensures.puts c.in-Ok-put_all.ensures.fault c.in-Ok-respond.ensures.valid),
+      (
+        _,
+        Answering-line g.S.Source g.K.Sink (empty_in_memory (L1 c.args.metric.dim c.args.metric.most)) c.args.reader.now c.args.output.now c.loop-line.reader c.loop-line.output (state_of c.loop-line.store) _ c.loop-line.invariant.1.1
+            c.take_line.new.self c.put_all.new.sink (state_of c.respond.new.store) c.in-Ok-take_line.line c.as_slice.result.now consumed.0 not_end c.in-Ok-take_line.ensures.line consumed.1
+            read.1 read.0 (c.as_slice.ensures ∙ c.in-Ok-respond.ensures.text) c.in-Ok-respond.ensures.next c.in-Ok-put_all.ensures.puts c.in-Ok-put_all.ensures.fault c.in-Ok-respond.ensures.valid,
+      ),
     )

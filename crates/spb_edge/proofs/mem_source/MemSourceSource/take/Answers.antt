@@ -14,5 +14,5 @@ returns-clause-gives c =
     let left = ap (λ s. s.left) c.self.view_is in
     let room : count ≤ length c.args.into.now = omega (arith, c.min-count.ensures) in
     ap Some (front_copied c.args.self.now.left bytes c.copy_from_slice.new.self _ at count (sym left)
-      (c.copy_from_slice.ensures.after ∙ ap (take count) (rest ∙ ap (drop at) slice ∙ left))
-      (c.copy_from_slice.ensures.len ∙ length-take count c.args.into.now ∙ omega (arith, room)))
+    (c.copy_from_slice.ensures.after ∙ ap (take count) (rest ∙ ap (drop at) slice ∙ left))
+    (c.copy_from_slice.ensures.len ∙ length-take count c.args.into.now ∙ omega (arith, room)))

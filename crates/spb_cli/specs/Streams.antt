@@ -1,0 +1,40 @@
+-- What an answer of a stream over std's reader or writer says of the bytes, where those are known.
+use Rattle.std.specs.Prelude.{◌≡◌, ℕ, ◌≤◌, List, [], length, take, Option, Result, Ok, Err}
+use Rattle.std.specs.Io.KnownBytes.{Keeps, Appends, Consumes, IsAtEnd}
+use Rattle.spb_edge.specs.declared.source.Take.{Take}
+use Rattle.spb_edge.specs.declared.source.Take.TheVariants.{Got, End, Failed as TakeFailed}
+use Rattle.spb_edge.specs.declared.sink.Put.{Put}
+use Rattle.spb_edge.specs.declared.sink.Put.TheVariants.{Took, Failed as PutFailed}
+use Rattle.spb_edge.specs.Fault.{counted}
+
+-- the reader gave the bytes got; where the source is at its end the reader is and gave none, and where
+-- the source failed it kept all
+abbrev pub ReadsFrom : Take → Option (List ℕ) → Option (List ℕ) → List ℕ → Type 0
+ReadsFrom (Got n) old new into = Consumes old new (take n into)
+ReadsFrom End old new into = Consumes old new [] × IsAtEnd new
+ReadsFrom TakeFailed old new into = Keeps old new
+
+-- a failure is counted once, and nothing else is
+abbrev pub CountsTake : Take → ℕ → ℕ → Type 0
+CountsTake (Got n) before now = now ≡ before
+CountsTake End before now = now ≡ before
+CountsTake TakeFailed before now = now ≡ counted before
+
+-- the writer holds a front of the bytes behind what it held
+abbrev pub AppendsFront : Option (List ℕ) → Option (List ℕ) → List ℕ → Type 0
+AppendsFront old new bytes = (n : ℕ) × (n ≤ length bytes) × Appends old new (take n bytes)
+
+-- all of the bytes were written, or a front of them
+abbrev pub WritesAll : {E : Type 0} → Result Unit E → Option (List ℕ) → Option (List ℕ) → List ℕ → Type 0
+WritesAll (Ok _) old new bytes = Appends old new bytes
+WritesAll (Err _) old new bytes = AppendsFront old new bytes
+
+-- the whole piece was taken and written, or the sink failed and wrote a front of it
+abbrev pub WritesTo : Put → Option (List ℕ) → Option (List ℕ) → List ℕ → Type 0
+WritesTo (Took n) old new piece = (n ≡ length piece) × Appends old new piece
+WritesTo PutFailed old new piece = AppendsFront old new piece
+
+-- a failure is counted once, and nothing else is
+abbrev pub CountsPut : Put → ℕ → ℕ → Type 0
+CountsPut (Took n) before now = now ≡ before
+CountsPut PutFailed before now = now ≡ counted before
