@@ -4,6 +4,11 @@
 //! that they share with the code.
 #![tactic(auto)]
 
+ghost use Rattle.std.specs.Prelude.{◌≡◌, [], ◌∷◌, codes};
+ghost use Rattle.std.specs.List.{flat_map};
+ghost use Rattle.spb_defs.specs.Play.{play};
+ghost use Rattle.spb_defs.specs.Rows.{AreAnswered, ended, plane, with_pivots};
+
 use spb_edge::{Bytes, Ids};
 
 /// The longest line, in bytes without its LF.
@@ -53,3 +58,28 @@ pub enum Reply {
     /// The line is too long.
     Long,
 }
+
+/// Scripts over points with two components from 0 to 255, and what they are answered: the definitions
+/// compute it. The call does nothing.
+pub fn worked_rows()
+    ensures added { AreAnswered
+        (codes "add 0 1 0,0" ∷ codes "range 0 0 0,0" ∷ [])
+        (codes "ok" ∷ codes "range 1 evals 1 sure 0: 1" ∷ []) }
+    ensures exists { AreAnswered
+        (codes "add 0 1 0,0" ∷ codes "add 0 1 5,5" ∷ codes "get 0 1" ∷ codes "range 0 5 3,4" ∷ [])
+        (codes "ok" ∷ codes "exists" ∷ codes "bad command" ∷ codes "range 0 evals 1 sure 0:" ∷ []) }
+    ensures within { AreAnswered
+        (codes "add 1 7 0,1" ∷ codes "add 1 3 9,9" ∷ codes "add 2 1 0,0" ∷ codes "add 1 4294967295 1,0" ∷ codes "range 1 1 0,0" ∷ [])
+        (codes "ok" ∷ codes "ok" ∷ codes "ok" ∷ codes "ok" ∷ codes "range 2 evals 3 sure 0: 7 4294967295" ∷ []) }
+    ensures refused { AreAnswered
+        (codes "" ∷ codes "add 0 6 256,0" ∷ codes "add 4 6 1,1" ∷ codes "add 0 06 1,1" ∷ codes "add 0 1" ∷ codes "range 0 -1 3,0" ∷ [])
+        (codes "bad command" ∷ codes "bad command" ∷ codes "bad command" ∷ codes "bad command" ∷ codes "bad command" ∷ codes "bad command" ∷ []) }
+    // Two pivots, 0,0 and 255,0, spare the distances that they tell.
+    ensures spared { play with_pivots (flat_map ended
+        (codes "add 0 1 0,0" ∷ codes "add 0 2 3,4" ∷ codes "add 0 3 10,0" ∷ codes "add 0 4 100,100" ∷ codes "add 0 5 255,0"
+        ∷ codes "range 0 8 3,0" ∷ codes "range 1 8 3,0" ∷ codes "range 0 4294967295 3,0" ∷ []))
+        ≡ flat_map ended (codes "ok" ∷ codes "ok" ∷ codes "ok" ∷ codes "ok" ∷ codes "ok"
+        ∷ codes "range 3 evals 4 sure 1: 1 2 3" ∷ codes "range 0 evals 2 sure 0:" ∷ codes "range 5 evals 2 sure 5: 1 2 3 4 5" ∷ []) }
+    // No LF ends the last line.
+    ensures unended { play plane (codes "range 0 0 0,0") ≡ ended (codes "range 0 evals 0 sure 0:") }
+{}
