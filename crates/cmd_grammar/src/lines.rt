@@ -1,4 +1,4 @@
-ghost use Rattle.std.specs.Prelude.{◌≡◌, ℕ, ◌<◌, ◌≤◌, ◌==◌, [], ◌∷◌, length, IsTrue, IfOk, MatchOption};
+ghost use Rattle.std.specs.Prelude.{◌≡◌, ◌<◌, ◌≤◌, ◌==◌, [], ◌∷◌, length, IsTrue, IfOk, MatchOption};
 ghost use Rattle.std.specs.List.{slice_split};
 ghost use Rattle.metrics_builtin.specs.Space.{fits, IsValid};
 ghost use Rattle.spb_defs.specs.Numbers.{number_within};

@@ -24,14 +24,14 @@ CountsTake TakeFailed before now = now ≡ counted before
 abbrev pub AppendsFront : Option (List ℕ) → Option (List ℕ) → List ℕ → Type 0
 AppendsFront old new bytes = (n : ℕ) × (n ≤ length bytes) × Appends old new (take n bytes)
 
--- all of the bytes were written, or a front of them
-abbrev pub WritesAll : {E : Type 0} → Result Unit E → Option (List ℕ) → Option (List ℕ) → List ℕ → Type 0
-WritesAll (Ok _) old new bytes = Appends old new bytes
-WritesAll (Err _) old new bytes = AppendsFront old new bytes
+-- that many of the bytes were written, or some front of them
+abbrev pub WritesFront : {E : Type 0} → Result ℕ E → Option (List ℕ) → Option (List ℕ) → List ℕ → Type 0
+WritesFront (Ok n) old new bytes = Appends old new (take n bytes)
+WritesFront (Err _) old new bytes = AppendsFront old new bytes
 
--- the whole piece was taken and written, or the sink failed and wrote a front of it
+-- what was taken of the piece was written, or the sink failed and wrote some front of it
 abbrev pub WritesTo : Put → Option (List ℕ) → Option (List ℕ) → List ℕ → Type 0
-WritesTo (Took n) old new piece = (n ≡ length piece) × Appends old new piece
+WritesTo (Took n) old new piece = Appends old new (take n piece)
 WritesTo PutFailed old new piece = AppendsFront old new piece
 
 -- a failure is counted once, and nothing else is

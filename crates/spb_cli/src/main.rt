@@ -2,12 +2,14 @@
 //! writes a reply to each on standard output.
 #![tactic(auto)]
 
-ghost use Rattle.std.specs.Prelude.{◌≡◌, ◌≢◌, ◌⊎◌, IfErr};
+ghost use Rattle.std.specs.Prelude.{◌≡◌, ◌≢◌, ◌⊎◌, None, map, IfErr};
+ghost use Rattle.std.specs.String.{string_bytes};
+ghost use Rattle.spb_top.specs.Words.{space_of};
 ghost use Rattle.std.specs.IoError.{error_kind};
 
 mod streams;
 
-use spb_edge::{Bytes, SureDisk};
+use spb_edge::{Bytes, SureDisk, put_all};
 use spb_top::{Status, code, run, status_line};
 use std::alloc::Global;
 use std::env::Env;
@@ -21,7 +23,7 @@ fn main(rt: HostRuntime) -> ExitCode {
         Ok(words) => work(rt.alloc(), words.as_slice(), rt.stdin(), rt.stdout()),
         Err(status) => status,
     };
-    report(rt.alloc(), &status, &mut rt.stderr());
+    report(rt.alloc(), &status, rt.stderr());
     ExitCode::from(code(&status))
 }
 
@@ -57,7 +59,10 @@ fn work<R: Read + Drop, W: Write + Drop>(
     words: &[String],
     reader: R,
     writer: W,
-) -> Status {
+) -> Status
+    ensures usage { result ≡ Status.Usage → space_of (map string_bytes words.now) ≡ None }
+    ensures others { space_of (map string_bytes words.now) ≡ None → result ≡ Status.Usage ⊎ result ≡ Status.NoMemory }
+{
     let Ok(mut disk) = SureDisk::new(alloc, &[]) else {
         return Status::NoMemory;
     };
@@ -67,12 +72,12 @@ fn work<R: Read + Drop, W: Write + Drop>(
 }
 
 /// Writes the line of the status where it has one. That it can't be written changes nothing.
-fn report<W: Write>(alloc: Global, status: &Status, writer: &mut W) {
+fn report<W: Write + Drop>(alloc: Global, status: &Status, writer: W) {
     let Ok(mut line) = Bytes::of(alloc, &[]) else {
         return;
     };
     if status_line(status, &mut line).is_ok() {
-        let _ = writer.write_all(line.as_slice());
+        let _ = put_all(&mut StdSink::new(writer), line.as_slice());
     }
 }
 
@@ -146,8 +151,7 @@ mod tests {
         report(rt.alloc(), &Status::Done, &mut text);
         assert!(rt; text.is_empty());
         report(rt.alloc(), &Status::Usage, &mut text);
-        assert!(rt; text.as_slice().starts_with(b"spb: "));
-        assert!(rt; text.as_slice().ends_with(b"\n"));
+        assert!(rt; text.as_slice() == b"spb: usage\n".as_slice());
     }
 
     #[test]
@@ -159,18 +163,17 @@ mod tests {
             String::from_str(rt.alloc(), "255")?,
         ]?;
         let line = b"add 0 1 0,0\n".as_slice();
-        let torn = work(
-            rt.alloc(),
-            words.as_slice(),
-            Torn(line),
-            Vec::new(rt.alloc()),
-        );
+        let mut text = Vec::new(rt.alloc());
+        let torn = work(rt.alloc(), words.as_slice(), Torn(line), &mut text);
         assert!(rt; matches!(torn, Status::ReadFault));
+        assert!(rt; text.as_slice() == b"ok\n".as_slice());
         let mut none = [0u8; 0];
         let full = work(rt.alloc(), words.as_slice(), line, none.as_mut_slice());
         assert!(rt; matches!(full, Status::WriteFault));
-        let done = work(rt.alloc(), words.as_slice(), line, Vec::new(rt.alloc()));
+        let mut text = Vec::new(rt.alloc());
+        let done = work(rt.alloc(), words.as_slice(), line, &mut text);
         assert!(rt; matches!(done, Status::Done));
+        assert!(rt; text.as_slice() == b"ok\n".as_slice());
         Ok(())
     }
 }

@@ -1,6 +1,6 @@
 -- What scanning all objects of a collection answers, for any distance, and the number of distances
 -- that the answer is worth.
-use Rattle.std.specs.Prelude.{ℕ, ◌+◌, Bool, ◌&&◌, not, nat_le, List, length, map, filter, count_by}
+use Rattle.std.specs.Prelude.{ℕ, ◌+◌, ◌&&◌, not, nat_le, List, length, map, filter, count_by}
 use Rattle.spb_defs.specs.Pivots.{vector_of, meets, is_sure}
 
 -- an object of a collection with its id

@@ -1,5 +1,5 @@
 -- The state of a store: what every command is answered from.
-use Rattle.std.specs.Prelude.{◌≡◌, ℕ, ◌≤◌, ◌==◌, Bool, nat_le, List, [], length, Option, Some, None, is_some, if◌then◌else◌, All}
+use Rattle.std.specs.Prelude.{ℕ, ◌==◌, Bool, nat_le, List, [], length, Option, Some, None, if◌then◌else◌}
 use Rattle.std.specs.List.{filter_map}
 use Rattle.std.specs.Map.{lookup}
 use Rattle.std.specs.BTreeMap.{is_at, insert_entry}

@@ -1,5 +1,5 @@
 -- What one line is answered from a state, and the state after it.
-use Rattle.std.specs.Prelude.{ℕ, List, is_some, Result, Ok, Err, if◌then◌else◌}
+use Rattle.std.specs.Prelude.{is_some, Result, Ok, Err, if◌then◌else◌}
 use Rattle.spb_edge.specs.declared.reader.Line.{Line}
 use Rattle.spb_edge.specs.declared.reader.Line.TheVariants as line
 use Rattle.metrics_builtin.specs.Space.{dist}

@@ -14,7 +14,7 @@ use spb_edge::{Bytes, Ids};
 /// The longest line, in bytes without its LF.
 pub const LINE_LIMIT: usize = 16_384;
 
-/// The most objects of a session in memory, over all collections.
+/// The most objects of a store in memory, over all collections.
 pub const MEMORY_CAP: usize = 65_536;
 
 /// A line that is a command.
@@ -82,4 +82,11 @@ pub fn worked_rows()
         ∷ codes "range 3 evals 4 sure 1: 1 2 3" ∷ codes "range 0 evals 2 sure 0:" ∷ codes "range 5 evals 2 sure 5: 1 2 3 4 5" ∷ []) }
     // No LF ends the last line.
     ensures unended { play plane (codes "range 0 0 0,0") ≡ ended (codes "range 0 evals 0 sure 0:") }
+{}
+
+/// The limits that the definitions speak of: bytes of a line, and objects of a store in memory. The
+/// call does nothing.
+pub fn limits()
+    ensures line { LINE_LIMIT ≡ 16384 }
+    ensures objects { MEMORY_CAP ≡ 65536 }
 {}

@@ -1,9 +1,8 @@
 -- What adding an object is answered, and what it leaves.
-use Rattle.std.proofs.Common.{◌≡◌, ℕ, ◌<◌, ◌≤◌, Bool, true, false, cond, List, length, refl, ap, ◌∙◌, arith}
-use Rattle.std.specs.Prelude.{nat_le, is_some, if◌then◌else◌}
+use Rattle.std.proofs.Common.{◌≡◌, ℕ, ◌<◌, ◌≤◌, Bool, true, false, List, length, ap, ◌∙◌, arith}
+use Rattle.std.specs.Prelude.{is_some, if◌then◌else◌}
 use Rattle.std.proofs.lemmas.Bool.Decides.{nat_tests}
 use Rattle.spb_defs.specs.declared.Command.TheVariants.{Add}
-use Rattle.spb_defs.specs.declared.Reply.{Reply}
 use Rattle.spb_defs.specs.declared.Reply.TheVariants.{Done, Exists, Full}
 use Rattle.spb_defs.specs.State.{State, object_at, is_full, with_object}
 use Rattle.spb_defs.specs.Step.{reply_to, after}

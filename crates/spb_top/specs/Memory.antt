@@ -1,5 +1,5 @@
 -- The store of a session in memory as a state.
-use Rattle.std.specs.Prelude.{ℕ, List, [], All}
+use Rattle.std.specs.Prelude.{[], All}
 use Rattle.std.specs.Map.{values_of}
 use Rattle.metrics_builtin.specs.declared.Space.{Space}
 use Rattle.metrics_builtin.specs.declared.Space.TheVariants.{L1}

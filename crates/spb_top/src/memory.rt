@@ -1,5 +1,5 @@
 //! The store of a session in memory.
-ghost use Rattle.std.specs.Prelude.{◌≡◌, ◌+◌, ◌<◌, ◌≤◌, IfOk, OnOk, OnErr, length, vec_len};
+ghost use Rattle.std.specs.Prelude.{◌≡◌, ◌+◌, ◌<◌, IfOk, OnOk, OnErr, length};
 ghost use Rattle.spb_defs.specs.State.{rows_of};
 ghost use Rattle.spb_defs.specs.Scans.{scan_range};
 ghost use Rattle.metrics_builtin.specs.Space.{dist, IsValid};

@@ -1,8 +1,7 @@
 //! The top call.
-ghost use Rattle.std.specs.Prelude.{◌≡◌, ◌≢◌, ℕ, ◌≤◌, ◌^◌, ◌↔◌, ◌++◌, List, [], Option, Some, None, map, length, IfOk, OnOk, OnErr, IfSome};
+ghost use Rattle.std.specs.Prelude.{◌≡◌, ◌≢◌, ℕ, List, [], Some, None, map, OnOk};
 ghost use Rattle.std.specs.String.{string_bytes};
 ghost use Rattle.metrics_builtin.specs.declared.Space.{Space};
-ghost use Rattle.spb_edge.specs.Fault.{Rose};
 ghost use Rattle.spb_edge.specs.Reader.{unread, rest, taken, faults};
 ghost use Rattle.spb_defs.specs.State.{empty_in_memory};
 ghost use Rattle.spb_defs.specs.Step.{reply, next};

@@ -1,8 +1,8 @@
-ghost use Rattle.std.specs.Prelude.{◌≡◌, ℕ, ◌<◌, None, length, IfOk};
+ghost use Rattle.std.specs.Prelude.{◌≡◌, ◌<◌, None, length, IfOk};
 ghost use Rattle.std.specs.Io.{WritesAtMost};
 ghost use Rattle.std.specs.Io.KnownBytes.{WriteAppends, Keeps};
 ghost use Rattle.spb_edge.specs.Sink.{Takes, IsWithin, CountsFault};
-ghost use Rattle.spb_cli.specs.Streams.{WritesAll, WritesTo, CountsPut};
+ghost use Rattle.spb_cli.specs.Streams.{WritesFront, WritesTo, CountsPut};
 
 use super::MOST_TRIES;
 use spb_edge::{Put, Sink, WriteFault};
@@ -10,8 +10,8 @@ use std::io::{ErrorKind, Write};
 
 /// A writer of std as a sink. It tells nothing of the bytes taken.
 ///
-/// A piece that was taken is written and flushed, so that it is seen before the next is made. Of a
-/// piece on which the sink failed, a front may have been written.
+/// What was taken of a piece is written and flushed, so that it is seen before the next is made. Only
+/// where the flush failed may a front of the piece have been written that wasn't taken.
 #[derive(Drop)]
 pub struct StdSink<W: Write> {
     writer: W,
@@ -46,7 +46,7 @@ impl<W: Write> Sink for StdSink<W> {
         ensures counts { CountsPut result self.old.faults self.new.faults }
     {
         match write_and_flush(&mut self.writer, piece) {
-            Ok(()) => Put::Took(piece.len()),
+            Ok(count) => Put::Took(count),
             Err(_) => {
                 self.faults = self.faults.saturating_add(1);
                 Put::Failed
@@ -77,17 +77,6 @@ fn write_some<W: Write>(writer: &mut W, bytes: &[u8]) -> Result<usize, WriteFaul
     Err(WriteFault)
 }
 
-/// Writes all of `bytes`, by as many writes as it takes. On a fault a front of them was written.
-fn write_whole<W: Write>(writer: &mut W, bytes: &[u8]) -> Result<(), WriteFault>
-    ensures writes { WritesAll result (W.contents writer.old) (W.contents writer.new) bytes.now }
-{
-    let mut done = 0;
-    while done < bytes.len() {
-        done += write_some(writer, &bytes[done..])?;
-    }
-    Ok(())
-}
-
 /// Makes what was written seen, by a flush that is made again where a signal interrupts it.
 fn flush<W: Write>(writer: &mut W) -> Result<(), WriteFault>
     ensures bytes { Keeps (W.contents writer.old) (W.contents writer.new) }
@@ -105,17 +94,22 @@ fn flush<W: Write>(writer: &mut W) -> Result<(), WriteFault>
     Err(WriteFault)
 }
 
-/// Writes all of `bytes`, and makes them seen.
-fn write_and_flush<W: Write>(writer: &mut W, bytes: &[u8]) -> Result<(), WriteFault>
-    ensures writes { WritesAll result (W.contents writer.old) (W.contents writer.new) bytes.now }
+/// Writes a front of `bytes`, which isn't empty, and makes it seen.
+fn write_and_flush<W: Write>(writer: &mut W, bytes: &[u8]) -> Result<usize, WriteFault>
+    requires { 0 < length bytes.now }
+    ensures some { IfOk result (λ count. 0 < count) }
+    ensures within { WritesAtMost result bytes.now }
+    ensures writes { WritesFront result (W.contents writer.old) (W.contents writer.new) bytes.now }
 {
-    write_whole(writer, bytes)?;
-    flush(writer)
+    let count = write_some(writer, bytes)?;
+    flush(writer)?;
+    Ok(count)
 }
 
 #[cfg(test)]
 mod tests {
     use super::*;
+    use spb_edge::put_all;
     use std::alloc::Global;
     use std::io;
 
@@ -172,17 +166,18 @@ mod tests {
     #[test]
     fn sink_writes_and_flushes_each_piece(rt: HostRuntime) {
         let mut sink = StdSink::new(SlowWriter::new(rt.alloc(), 9, false));
-        assert_eq!(rt; sink.put(b"hello"), Put::Took(5));
-        assert_eq!(rt; sink.put(b" sea"), Put::Took(4));
+        assert_eq!(rt; sink.put(b"hello"), Put::Took(2));
+        assert_eq!(rt; sink.writer.flushes, 1);
+        assert!(rt; put_all(&mut sink, b"llo sea").is_ok());
         assert_eq!(rt; sink.writer.bytes.as_slice(), b"hello sea".as_slice());
-        assert_eq!(rt; sink.writer.flushes, 2);
+        assert_eq!(rt; sink.writer.flushes, 5);
         assert_eq!(rt; sink.faults, 0);
     }
 
     #[test]
     fn sink_counts_a_write_that_fails(rt: HostRuntime) {
         let mut sink = StdSink::new(SlowWriter::new(rt.alloc(), 3, false));
-        assert_eq!(rt; sink.put(b"hello"), Put::Failed);
+        assert!(rt; put_all(&mut sink, b"hello").is_err());
         assert_eq!(rt; sink.writer.bytes.as_slice(), b"hel".as_slice());
         assert_eq!(rt; sink.faults, 1);
     }

@@ -1,7 +1,7 @@
-use Rattle.std.proofs.Common.{length, refl, sym, ap, subst, ◌∙◌, append-nil, arith}
+use Rattle.std.proofs.Common.{length, sym, ap, subst, ◌∙◌, arith}
 use Rattle.std.specs.Map.Iter.{deref_pair}
 use Rattle.std.proofs.lemmas.Map.Iter.{rest_more, rest_all}
-use Rattle.metrics_builtin.specs.Space.{dist, IsValid}
+use Rattle.metrics_builtin.specs.Space.{IsValid}
 use Rattle.metrics_builtin.specs.declared.Space.TheVariants.{L1}
 use Rattle.spb_top.proofs.RowLaws.{Scanning-start, Scanning-valid, Scanning-found, Scanning-passed, Scanning-end}
 use Rattle.spb_top.proofs.memory.within.Goals as goal

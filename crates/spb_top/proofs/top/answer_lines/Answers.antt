@@ -1,11 +1,10 @@
-use Rattle.std.proofs.Common.{◌≡◌, ℕ, List, ◌++◌, Some, true, false, sym, ap, subst, ◌∙◌, arith, rules}
+use Rattle.std.proofs.Common.{◌≡◌, sym, ◌∙◌, arith, rules}
 use Rattle.std.proofs.lemmas.Bool.{false≢true}
 use Rattle.metrics_builtin.specs.declared.Space.TheVariants.{L1}
 use Rattle.spb_edge.specs.declared.reader.Line.TheVariants.{End}
-use Rattle.spb_edge.specs.Reader.{unread, rest, taken, faults}
 use Rattle.spb_defs.specs.State.{empty_in_memory}
-use Rattle.spb_top.specs.Memory.{state_of, HasValidObjects}
-use Rattle.spb_top.proofs.Running.{Answering, Answering-line, front_so_far, front_of_reply, front_stopped, cause_stopped, Rose-later}
+use Rattle.spb_top.specs.Memory.{state_of}
+use Rattle.spb_top.proofs.Running.{Answering-line, front_so_far, front_of_reply, front_stopped, cause_stopped, Rose-later}
 use Rattle.spb_top.proofs.top.answer_lines.Goals as goal
 
 pub returns-in-Err-clause-text : goal.returns-in-Err-clause-text

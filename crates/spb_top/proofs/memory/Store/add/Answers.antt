@@ -1,8 +1,8 @@
-use Rattle.std.proofs.Common.{◌≡◌, length, sym, ap, ◌∙◌, arith}
+use Rattle.std.proofs.Common.{sym, ap, ◌∙◌, arith}
 use Rattle.std.proofs.lemmas.Map.Views.{All-values-insert_entry}
 use Rattle.metrics_builtin.specs.Space.{IsValid}
-use Rattle.spb_defs.specs.State.{key_cmp, object_at}
-use Rattle.spb_top.specs.Memory.{state_of, HasValidObjects}
+use Rattle.spb_defs.specs.State.{key_cmp}
+use Rattle.spb_top.specs.Memory.{state_of}
 use Rattle.spb_top.proofs.AddLaws.{add_existing, add_full, add_new}
 use Rattle.spb_top.proofs.memory.Store.add.Goals as goal
 

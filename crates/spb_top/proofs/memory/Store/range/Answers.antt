@@ -1,4 +1,4 @@
-use Rattle.std.proofs.Common.{sym, ap, ◌∙◌}
+use Rattle.std.proofs.Common.{ap, ◌∙◌}
 use Rattle.metrics_builtin.specs.Space.{dist}
 use Rattle.spb_defs.specs.Scans.{scan_range}
 use Rattle.spb_defs.specs.State.{rows_of}
