@@ -46,3 +46,12 @@ unfoldable pub next : State → Line → State
 next s (line.Text text) = after_read s (command_of s.space text)
 next s line.Long = s
 next s line.End = s
+
+-- a reply that refuses the line
+abbrev pub IsRefusal : Reply → Type 0
+IsRefusal Done = ⊥
+IsRefusal Exists = Unit {0}
+IsRefusal Full = Unit {0}
+IsRefusal (Range ids evals sure) = ⊥
+IsRefusal (Bad failed) = Unit {0}
+IsRefusal Long = Unit {0}

@@ -7,6 +7,9 @@
 ghost use Rattle.std.specs.Prelude.{◌≡◌, [], ◌∷◌, codes};
 ghost use Rattle.std.specs.List.{flat_map};
 ghost use Rattle.spb_defs.specs.Play.{play};
+ghost use Rattle.spb_edge.specs.declared.reader.Line.{Line};
+ghost use Rattle.spb_defs.specs.State.{State};
+ghost use Rattle.spb_defs.specs.Step.{reply, next, IsRefusal};
 ghost use Rattle.spb_defs.specs.Rows.{AreAnswered, ended, plane, with_pivots};
 
 use spb_edge::{Bytes, Ids};
@@ -89,4 +92,9 @@ pub fn worked_rows()
 pub fn limits()
     ensures line { LINE_LIMIT ≡ 16384 }
     ensures objects { MEMORY_CAP ≡ 65536 }
+{}
+
+/// A line that is refused leaves the state as it was. The call does nothing.
+pub fn refusals_change_nothing()
+    ensures { (s : State) (line : Line) → IsRefusal (reply s line) → next s line ≡ s }
 {}

@@ -1,4 +1,4 @@
--- The store of a session in memory as a state.
+-- The store in memory as a state.
 use Rattle.std.specs.Prelude.{[], All}
 use Rattle.std.specs.Map.{values_of}
 use Rattle.metrics_builtin.specs.declared.Space.{Space}
@@ -20,3 +20,7 @@ state_of store = record {
   cap = MEMORY_CAP;
   members = store.members.entries;
 }
+
+-- each object of the state is one of its space
+abbrev pub IsSound : State → Type 0
+IsSound s = HasValidObjects s.space s.members

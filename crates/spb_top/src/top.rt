@@ -8,7 +8,7 @@ ghost use Rattle.spb_defs.specs.Step.{reply, next};
 ghost use Rattle.spb_defs.specs.ReplyText.{reply_text};
 ghost use Rattle.spb_defs.specs.Play.{play};
 ghost use Rattle.spb_defs.specs.Words.{space_of};
-ghost use Rattle.spb_top.specs.Memory.{state_of, HasValidObjects};
+ghost use Rattle.spb_top.specs.Memory.{state_of, IsSound};
 ghost use Rattle.spb_top.specs.Run.{Asks, Writes, EndsInput, HasCause, Completes, stopped_by};
 
 use crate::memory::Store;
@@ -21,10 +21,10 @@ use std::alloc::Global;
 
 /// Clears the text, and puts the reply to the line there; the store is then as after the line.
 fn respond(store: &mut Store, alloc: Global, line: &Line, text: &mut Bytes) -> Result<(), Memory>
-    requires valid { HasValidObjects (state_of store.old).space store.old.members.entries }
+    requires valid { IsSound (state_of store.old) }
     ensures text { OnOk result (text.new ≡ reply_text (reply (state_of store.old) line.now)) }
     ensures next { OnOk result (state_of store.new ≡ next (state_of store.old) line.now) }
-    ensures valid { HasValidObjects (state_of store.new).space store.new.members.entries }
+    ensures valid { IsSound (state_of store.new) }
 {
     text.clear();
     let reply = store.turn(alloc, line)?;

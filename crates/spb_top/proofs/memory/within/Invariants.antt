@@ -6,4 +6,4 @@ abbrev pub invariant-loop-key : goal.invariant-loop-key
 invariant-loop-key l =
     (goal.iterator-loop-key).can_next l.key-iterator
     × (goal.iterator-loop-key).is_finite l.key-iterator
-    × Scanning (L1 l.metric.dim l.metric.most) l.c l.members.entries l.key-iterator l.query l.radius l.ids l.count
+    × Scanning (L1 l.metric.dim l.metric.most) l.c l.members.entries l.key-iterator l.query l.radius l.ids l.evals
