@@ -1,5 +1,5 @@
 -- A sink in memory: what it took, how much it may take, and which of its calls fail.
-use Rattle.std.specs.Prelude.{◌≡◌, ℕ, ◌+◌, ◌-◌, Bool, ◌||◌, List, [], length, min, if◌then◌else◌, ◌==◌}
+use Rattle.std.specs.Prelude.{◌≡◌, ℕ, ◌-◌, Bool, ◌||◌, List, [], length, min, if◌then◌else◌, ◌==◌}
 use Rattle.std.specs.List.{list_any}
 use Rattle.spb_edge.specs.declared.sink.Put.{Put}
 use Rattle.spb_edge.specs.declared.sink.Put.TheVariants.{Took, Failed}
@@ -35,9 +35,10 @@ fails_next s = (free s == 0) || list_any (λ number. number == counted s.calls) 
 abbrev pub answer_of : Kept → ℕ → Put
 answer_of s len = if fails_next s then Failed else Took (min len (free s))
 
--- what stands after the answer
+-- what stands after the answer: a call that fails is counted among the faults, and no other
 pub record Answers (old : Kept) (len : ℕ) (answer : Put) (new : Kept) : Type 0 where
   pub answer_is : answer ≡ answer_of old len
   pub one_call : new.calls ≡ counted old.calls
   pub same_room : new.room ≡ old.room
   pub same_failing : new.failing ≡ old.failing
+  pub counts : new.faults ≡ (if fails_next old then counted old.faults else old.faults)

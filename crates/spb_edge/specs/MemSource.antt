@@ -32,9 +32,10 @@ abbrev pub answer_of : Held → ℕ → Take
 answer_of s room = if fails_next s then Failed
     else (if length s.left == 0 then End else Got (min (min (length s.left) s.piece) room))
 
--- what stands after the answer
+-- what stands after the answer: a call that fails is counted among the faults, and no other
 pub record Answers (old : Held) (room : ℕ) (answer : Take) (new : Held) : Type 0 where
   pub answer_is : answer ≡ answer_of old room
   pub one_call : new.calls ≡ counted old.calls
   pub same_piece : new.piece ≡ old.piece
   pub same_failing : new.failing ≡ old.failing
+  pub counts : new.faults ≡ (if fails_next old then counted old.faults else old.faults)

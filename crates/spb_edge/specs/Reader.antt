@@ -1,5 +1,5 @@
 -- What a reader of lines has before it, and what a call takes off.
-use Rattle.std.specs.Prelude.{◌≡◌, ℕ, Bool, true, false, ◌+◌, ◌-◌, ◌^◌, ◌<◌, ◌≤◌, List, [], ◌∷◌, ◌++◌, length, Option, Some, None, IfSome, Result, Ok, Err, ◌⊎◌}
+use Rattle.std.specs.Prelude.{◌≡◌, ℕ, Bool, true, false, ◌+◌, ◌-◌, ◌^◌, ◌<◌, ◌≤◌, List, [], ◌∷◌, ◌++◌, length, Option, Some, None, IfSome, Result, Ok, Err, ◌⊎◌, IsTrue}
 use Rattle.std.specs.List.{slice_range}
 use Rattle.spb_edge.specs.declared.reader.Line.{Line}
 use Rattle.spb_edge.specs.declared.reader.Line.TheVariants.{Text, Long, End}
@@ -31,34 +31,43 @@ module _ {S : Type 0} {G : Ghosts S} where
   abbrev pub faults : LineReader S G → ℕ
   faults reader = G.faults reader.source.now
 
+  -- whether the source said that nothing is left; it isn't asked again
+  abbrev pub has_ended : LineReader S G → Bool
+  has_ended reader = reader.ended
+
   -- how many bytes may be answered in lines yet
   abbrev pub budget : LineReader S G → ℕ
   budget reader = 2 ^ 30 + length (unread reader) - reader.taken
 
-  -- a call took these bytes off the front of the rest; what it took from the source besides is unread
+  -- a call took these bytes off the front of the rest: what was unread and then what it got from the
+  -- source, as many as the count rose, are these bytes and then what is unread now
   pub record TakesOff (old new : LineReader S G) (bytes : List ℕ) : Type 0 where
     pub front : rest old ≡ before_told bytes (rest new)
     pub count : taken old + length bytes + length (unread new) ≡ taken new + length (unread old)
+    pub got : (got : List ℕ) × (unread old ++ got ≡ bytes ++ unread new) × (taken new ≡ taken old + length got)
 
 -- nothing is left, where that is told
 abbrev pub NothingLeft : Option (List ℕ) → Type 0
 NothingLeft rest = IfSome rest (λ bytes. bytes ≡ [])
 
--- a line that is answered, by the bytes that were taken off for it: a piece without LF, and the LF or
--- the end of the stream
-abbrev pub IsLineAt : ℕ → Line → List ℕ → Option (List ℕ) → Type 0
-IsLineAt limit line bytes left = (piece : List ℕ) × HasNoLf piece × (line ≡ line_of limit piece)
-    × ((bytes ≡ piece ++ 10 ∷ []) ⊎ ((bytes ≡ piece) × (0 < length piece) × NothingLeft left))
+-- the reader may be asked: it took no more than the limit, and where the source has ended nothing is left
+pub record IsOpen {S : Type 0} {G : Ghosts S} (reader : LineReader S G) : Type 0 where
+  pub total : taken reader ≤ 2 ^ 30
+  pub ended : IsTrue (has_ended reader) → (unread reader ≡ []) × NothingLeft (rest reader)
 
--- the bytes that a call took off, by its answer. At a fault and at the limit they are the beginning of
--- a line that no LF ended.
-abbrev pub Spells : ℕ → Result Line EdgeError → List ℕ → Option (List ℕ) → Type 0
-Spells limit (Ok (Text text)) bytes left = IsLineAt limit (Text text) bytes left
-Spells limit (Ok Long) bytes left = IsLineAt limit Long bytes left
-Spells limit (Ok End) bytes left = (bytes ≡ []) × NothingLeft left
-Spells limit (Err edge.ReadFault) bytes left = HasNoLf bytes
-Spells limit (Err edge.InputLimit) bytes left = HasNoLf bytes
-Spells limit (Err edge.Memory) bytes left = Unit {0}
+-- a line that is answered, by the bytes that were taken off for it: a piece without LF, and the LF or
+-- the end of the stream, where the source has ended
+abbrev pub IsLineAt : ℕ → Line → List ℕ → Option (List ℕ) → Bool → Type 0
+IsLineAt limit line bytes left ended = (piece : List ℕ) × HasNoLf piece × (line ≡ line_of limit piece)
+    × ((bytes ≡ piece ++ 10 ∷ []) ⊎ ((bytes ≡ piece) × (0 < length piece) × NothingLeft left × IsTrue ended))
+
+-- the bytes that a call took off, by its answer. At an error they are the beginning of a line, without
+-- its LF.
+abbrev pub Spells : ℕ → Result Line EdgeError → List ℕ → Option (List ℕ) → Bool → Type 0
+Spells limit (Ok (Text text)) bytes left ended = IsLineAt limit (Text text) bytes left ended
+Spells limit (Ok Long) bytes left ended = IsLineAt limit Long bytes left ended
+Spells limit (Ok End) bytes left ended = (bytes ≡ []) × NothingLeft left × IsTrue ended
+Spells limit (Err e) bytes left ended = HasNoLf bytes
 
 -- an answer is the first of the lines that are left, or End where there is none
 abbrev pub IsFirstOf : Line → List Line → List Line → Type 0
@@ -81,6 +90,15 @@ HasCause (Err edge.ReadFault) before now total unread = (before ≤ now) × Rose
 HasCause (Err edge.InputLimit) before now total unread = (before ≤ now) × (0 < unread) × (total ≡ 2 ^ 30 + unread)
 HasCause (Err edge.Memory) before now total unread = (before ≤ now) × (total ≤ 2 ^ 30)
 
+-- behind the end there is no line, and the source isn't asked
+abbrev pub EndsAgain : Result Line EdgeError → Type 0
+EndsAgain (Ok (Text text)) = ⊥
+EndsAgain (Ok Long) = ⊥
+EndsAgain (Ok End) = Unit {0}
+EndsAgain (Err edge.ReadFault) = ⊥
+EndsAgain (Err edge.InputLimit) = ⊥
+EndsAgain (Err edge.Memory) = Unit {0}
+
 -- each line that is answered lowers the budget
 abbrev pub LowersBudget : Result Line EdgeError → ℕ → ℕ → Type 0
 LowersBudget (Ok (Text text)) before now = now < before
@@ -92,9 +110,10 @@ LowersBudget (Err e) before now = Unit {0}
 abbrev pub Refills : {S : Type 0} {G : Ghosts S} → Result Bool EdgeError → LineReader S G → LineReader S G → Type 0
 Refills (Ok true) old new =
     (rest new ≡ rest old) × (0 < length (unread new)) × (taken new ≡ taken old + length (unread new)) × (taken new ≤ 2 ^ 30)
-    × (faults old ≤ faults new)
+    × (faults old ≤ faults new) × (has_ended new ≡ false)
 Refills (Ok false) old new =
     (rest new ≡ rest old) × (unread new ≡ []) × (taken new ≡ taken old) × (taken new ≤ 2 ^ 30) × (faults old ≤ faults new) × NothingLeft (rest old)
+    × (has_ended new ≡ true)
 Refills (Err edge.ReadFault) old new =
     (rest new ≡ rest old) × (unread new ≡ []) × (taken new ≡ taken old) × (taken new ≤ 2 ^ 30) × (faults old ≤ faults new) × Rose (faults old) (faults new)
 Refills (Err edge.InputLimit) old new =

@@ -1,7 +1,6 @@
 -- Content that is told to contracts or not, and bytes that go from its front or to its end.
-use Rattle.std.specs.Prelude.{◌≡◌, ℕ, ◌+◌, ◌≤◌, List, [], ◌++◌, length, take, drop, Option, Some, None, refl}
-use Rattle.std.proofs.Common.{append_assoc, append-nil, sym, ap, ◌∙◌}
-use Rattle.std.proofs.Math.Seq.{take-add}
+use Rattle.std.specs.Prelude.{◌≡◌, ℕ, List, [], ◌++◌, Option, Some, None, refl}
+use Rattle.std.proofs.Common.{append_assoc, append-nil, ap}
 
 -- front, and then what is told behind it
 abbrev pub before_told : List ℕ → Option (List ℕ) → Option (List ℕ)

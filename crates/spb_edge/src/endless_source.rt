@@ -1,4 +1,4 @@
-ghost use Rattle.std.specs.Prelude.{◌≡◌, ℕ, ◌<◌, None, length, replicate};
+ghost use Rattle.std.specs.Prelude.{◌≡◌, ◌<◌, None, length, replicate};
 ghost use Rattle.spb_edge.specs.Source.{Gives, IsWithin, CountsFault};
 ghost use Rattle.spb_edge.specs.declared.source.Take.TheVariants.{Got};
 

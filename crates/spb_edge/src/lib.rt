@@ -25,3 +25,6 @@ pub use reader::{EdgeError, INPUT_LIMIT, Line, LineReader};
 pub use sink::{Put, Sink, WriteFault, put_all};
 pub use source::{Source, Take};
 pub use sure_disk::SureDisk;
+
+#[cfg(test)]
+mod tests;

@@ -1,4 +1,4 @@
-ghost use Rattle.std.specs.Prelude.{◌≡◌, ℕ, ◌+◌, ◌<◌, ◌≤◌, List, Option, Some, length, IfOk, vec_len, vec_capacity};
+ghost use Rattle.std.specs.Prelude.{◌≡◌, ◌<◌, ◌≤◌, Some, length, IfOk, vec_len, vec_capacity};
 ghost use Rattle.spb_edge.specs.MemSink.{Kept, IsKept, Answers};
 ghost use Rattle.spb_edge.specs.Sink.{Takes, IsWithin, CountsFault};
 

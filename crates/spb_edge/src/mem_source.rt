@@ -1,4 +1,4 @@
-ghost use Rattle.std.specs.Prelude.{◌≡◌, ℕ, ◌+◌, ◌<◌, ◌≤◌, List, Option, Some, length, IfOk};
+ghost use Rattle.std.specs.Prelude.{◌+◌, ◌<◌, ◌≤◌, Some, length, IfOk};
 ghost use Rattle.spb_edge.specs.MemSource.{Held, IsHeld, Answers};
 ghost use Rattle.spb_edge.specs.Source.{Gives, IsWithin, CountsFault};
 

@@ -1,5 +1,5 @@
 //! The lines of a stream, in whatever pieces it comes.
-ghost use Rattle.std.specs.Prelude.{◌≡◌, ℕ, ◌+◌, ◌-◌, ◌^◌, ◌<◌, ◌≤◌, List, [], ◌++◌, length, IfOk, IsOk, IsTrue, ◌↔◌};
+ghost use Rattle.std.specs.Prelude.{◌≡◌, ℕ, ◌+◌, ◌-◌, ◌<◌, ◌≤◌, List, [], ◌++◌, length, IfOk, OnOk, IsOk, Ok, false, IsTrue, ◌↔◌};
 ghost use Rattle.spb_edge.specs.Source.{Gives, IsWithin, CountsFault};
 
 use crate::{Bytes, Memory, Source, Take};
@@ -113,30 +113,19 @@ pub struct LineReader<'a, S: Source> {
     start: usize,
     end: usize,
     taken: u64,
+    ended: bool,
     ghost within: { (start ≤ end) × (end ≤ 8192) × (end - start ≤ taken) },
 }
 
 impl<'a, S: Source> LineReader<'a, S> {
-    ghost use Rattle.spb_edge.specs.Reader.{
-      unread,
-      rest,
-      taken,
-      faults,
-      budget,
-      TakesOff,
-      Spells,
-      IsNextLine,
-      HasCause,
-      LowersBudget,
-      Refills,
-      Scans,
-    };
+    ghost use Rattle.spb_edge.specs.Reader.{unread, rest, taken, faults, has_ended, budget, IsOpen, TakesOff, Spells, IsNextLine, HasCause, EndsAgain, LowersBudget, Refills, Scans};
 
     /// A reader at the front of what the source has left. It takes no memory.
     pub fn new(_alloc: Global, source: &'a mut S) -> Result<LineReader<'a, S>, Memory>
         ensures made { IsOk result }
         ensures nothing_unread { IfOk result (λ reader. unread reader ≡ []) }
         ensures nothing_taken { IfOk result (λ reader. taken reader ≡ 0) }
+        ensures not_ended { IfOk result (λ reader. has_ended reader ≡ false) }
         ensures name { IfOk result (λ reader. reader.source.ghost_name ≡ source.entry.ghost_name) }
         ensures at { IfOk result (λ reader. reader.source.now ≡ source.old) }
     {
@@ -146,26 +135,31 @@ impl<'a, S: Source> LineReader<'a, S> {
             start: 0,
             end: 0,
             taken: 0,
+            ended: false,
         })
     }
 
     /// The next line, however the source's bytes come in pieces: its text where it is within `limit`
     /// bytes, [`Line::Long`] where it is over it, and [`Line::End`] where nothing is left.
     ///
-    /// No earlier call of this reader may have answered an error. `ReadFault` comes where the source
-    /// counted a fault, and `InputLimit` exactly where [`INPUT_LIMIT`] bytes were taken and the next
-    /// take gave more. Where one of these comes, each line that an LF ended among the bytes taken
-    /// within the limit was answered before. It looks at each byte once, and copies the text of the
+    /// No earlier call of this reader may have answered `InputLimit`. `ReadFault` comes only where the
+    /// source counted a fault in this call, and `InputLimit` exactly where [`INPUT_LIMIT`] bytes were
+    /// taken and the next take gave more. Where one of these comes, each line that an LF ended among
+    /// the bytes taken within the limit was answered before. After an error the beginning of the line in
+    /// progress may be gone, and nothing more. It looks at each byte once, and copies the text of the
     /// line into memory of its own.
     pub fn take_line(&mut self, alloc: Global, limit: usize) -> Result<Line, EdgeError>
-        requires open { taken self.old ≤ 2 ^ 30 }
+        requires open { IsOpen self.old }
+        ensures open { OnOk result (IsOpen self.new) }
         // It is the first of the lines that are left, or End where there is none.
         ensures line { IfOk result (λ line. IsNextLine limit line (rest self.old) (rest self.new)) }
         // Which bytes went, whatever the answer.
         ensures consumed { (bytes : List ℕ) × TakesOff self.old self.new bytes
-            × Spells limit result bytes (rest self.new) }
+            × Spells limit result bytes (rest self.new) (has_ended self.new) }
         ensures cause { HasCause result (faults self.old) (faults self.new) (taken self.new)
             (length (unread self.new)) }
+        // Behind the end of the stream the source isn't asked again.
+        ensures after_end { IsTrue (has_ended self.old) → EndsAgain result }
         // A caller's loop over the lines ends, also where the source tells nothing.
         ensures progress { LowersBudget result (budget self.old) (budget self.new) }
         ensures name { self.new.source.ghost_name ≡ self.old.source.ghost_name }
@@ -187,6 +181,7 @@ impl<'a, S: Source> LineReader<'a, S> {
         ensures scans { Scans limit line result self.old self.new }
         ensures source { self.new.source.now ≡ self.old.source.now }
         ensures taken { taken self.new ≡ taken self.old }
+        ensures ended { has_ended self.new ≡ has_ended self.old }
         ensures name { self.new.source.ghost_name ≡ self.old.source.ghost_name }
     {
         let unread = &self.buffer[self.start..self.end];
@@ -204,13 +199,18 @@ impl<'a, S: Source> LineReader<'a, S> {
         }
     }
 
-    /// Takes the next bytes into the buffer, which is empty; whether any came.
+    /// Takes the next bytes into the buffer, which is empty; whether any came. Once the source has said
+    /// that nothing is left, it isn't asked again.
     fn refill(&mut self) -> Result<bool, EdgeError>
         requires empty { unread self.old ≡ [] }
-        requires open { taken self.old ≤ 2 ^ 30 }
+        requires open { IsOpen self.old }
         ensures refills { Refills result self.old self.new }
+        ensures after_end { IsTrue (has_ended self.old) → result ≡ Ok false }
         ensures name { self.new.source.ghost_name ≡ self.old.source.ghost_name }
     {
+        if self.ended {
+            return Ok(false);
+        }
         let left = INPUT_LIMIT - self.taken;
         let room = left.max(1).min(BUFFER as u64) as usize;
         match fill(self.source, &mut self.buffer, room) {
@@ -223,7 +223,10 @@ impl<'a, S: Source> LineReader<'a, S> {
                 }
                 Ok(true)
             }
-            Take::End => Ok(false),
+            Take::End => {
+                self.ended = true;
+                Ok(false)
+            }
             Take::Failed => Err(EdgeError::ReadFault),
         }
     }

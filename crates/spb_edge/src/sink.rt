@@ -1,4 +1,4 @@
-ghost use Rattle.std.specs.Prelude.{◌≡◌, ℕ, ◌<◌, List, Option, length};
+ghost use Rattle.std.specs.Prelude.{ℕ, ◌<◌, List, Option, length};
 ghost use Rattle.spb_edge.specs.Sink.{PutsAll, CountsWriteFault};
 
 use thiserror::Error;
@@ -14,7 +14,7 @@ pub enum Put {
 
 /// Where bytes go to, in pieces of any size.
 pub trait Sink {
-    ghost use Rattle.std.specs.Prelude.{◌≡◌, ℕ, ◌<◌, List, Option, length};
+    ghost use Rattle.std.specs.Prelude.{ℕ, ◌<◌, List, Option, length};
     ghost use Rattle.spb_edge.specs.Sink.{Takes, IsWithin, CountsFault};
 
     // the bytes taken so far, where the sink tells them

@@ -1,4 +1,4 @@
-ghost use Rattle.std.specs.Prelude.{◌≡◌, ℕ, ◌<◌, List, Option, length};
+ghost use Rattle.std.specs.Prelude.{ℕ, ◌<◌, List, Option, length};
 
 /// What a call of [`Source::take`] answers.
 #[derive(Clone, Copy, Debug, PartialEq, Eq)]
@@ -13,7 +13,7 @@ pub enum Take {
 
 /// Where bytes come from, in pieces of any size.
 pub trait Source {
-    ghost use Rattle.std.specs.Prelude.{◌≡◌, ℕ, ◌<◌, List, Option, length};
+    ghost use Rattle.std.specs.Prelude.{ℕ, ◌<◌, List, Option, length};
     ghost use Rattle.spb_edge.specs.Source.{Gives, IsWithin, CountsFault};
 
     // the bytes left, where the source tells them

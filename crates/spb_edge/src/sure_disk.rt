@@ -1,6 +1,4 @@
-ghost use Rattle.std.specs.Prelude.{◌≡◌, ℕ, ◌+◌, ◌≤◌, true, List, IsOk, OnOk, IfOk, OnErr, length, take, drop};
-ghost use Rattle.spb_edge.specs.Disk.{Sizes, Writes, Grows, CountsFault, CountsWriteFault};
-ghost use Rattle.spb_edge.specs.Fault.{counted};
+ghost use Rattle.std.specs.Prelude.{◌≡◌, ◌+◌, true, IfOk, length};
 ghost use Rattle.spb_edge.specs.SureDisk.{Image};
 
 use crate::{Bytes, Disk, DiskError, Memory};

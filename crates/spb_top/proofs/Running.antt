@@ -1,7 +1,8 @@
 -- What a run keeps from line to line: what was written so far, and that the replies to what is left
 -- complete it.
-use Rattle.std.proofs.Common.{◌≡◌, ℕ, ◌+◌, ◌^◌, ◌≤◌, List, [], ◌∷◌, ◌++◌, length, take, drop, Option, Some, None, Result, Err, refl, sym, ap, subst, ◌∙◌, append_assoc, length-append, arith}
-use Rattle.std.specs.Prelude.{IfSome}
+use Rattle.std.proofs.Common.{◌≡◌, ℕ, ◌+◌, ◌≤◌, List, [], ◌∷◌, ◌++◌, length, take, drop, Option, Some, None, Result, Err, refl, sym, ap, subst, ◌∙◌, append_assoc, length-append, arith}
+use Rattle.std.specs.Prelude.{false, IfSome}
+use Rattle.std.proofs.lemmas.Bool.{false≢true}
 use Rattle.std.proofs.lemmas.List.{take_at, take-append-drop}
 use Rattle.spb_edge.specs.declared.reader.Line.{Line}
 use Rattle.spb_edge.specs.declared.reader.Line.TheVariants.{Text, Long, End}
@@ -12,7 +13,7 @@ use Rattle.spb_edge.specs.declared.source.Source as source
 use Rattle.spb_edge.specs.declared.sink.Sink as sink
 use Rattle.spb_edge.specs.Told.{before_told, told_then, told_then-append, told_then-nil}
 use Rattle.spb_edge.specs.Lines.{lines_of}
-use Rattle.spb_edge.specs.Reader.{unread, rest, taken, faults, TakesOff, IsNextLine, NothingLeft}
+use Rattle.spb_edge.specs.Reader.{unread, rest, taken, faults, has_ended, IsOpen, TakesOff, IsNextLine, NothingLeft}
 use Rattle.spb_edge.specs.Reader as reads
 use Rattle.spb_defs.specs.declared.TheConstants.{LINE_LIMIT}
 use Rattle.spb_defs.specs.State.{State}
@@ -38,17 +39,17 @@ module _ {S K : Type 0} (G : source.Ghosts S) (H : sink.Ghosts K) where
   pub record Answering (first : State) (reader : LineReader S G) (output : K) (now : LineReader S G) (sink : K) (state : State) (written : List ℕ) : Type 0 where
     pub wrote : H.taken sink ≡ told_then (H.taken output) written
     pub follows : (script : List ℕ) → rest reader ≡ Some script → Follows script first written now state
-    pub total : taken now ≤ 2 ^ 30
+    pub is_open : IsOpen now
     pub source : faults reader ≤ faults now
     pub sink_faults : H.faults output ≤ H.faults sink
     pub valid : HasValidObjects state.space state.members
 
   -- before the first line
-  pub Answering-start : (first : State) (reader : LineReader S G) (output : K) → taken reader ≡ 0 → unread reader ≡ [] → HasValidObjects first.space first.members → Answering first reader output reader output first []
-  Answering-start first reader output none empty valid = record {
+  pub Answering-start : (first : State) (reader : LineReader S G) (output : K) → taken reader ≡ 0 → unread reader ≡ [] → has_ended reader ≡ false → HasValidObjects first.space first.members → Answering first reader output reader output first []
+  Answering-start first reader output none empty running valid = record {
     wrote = sym (told_then-nil (H.taken output));
     follows = λ script told. (script, told, record { text = refl }, omega (arith, ap length empty, none));
-    total = omega arith;
+    is_open = record { total = omega arith; ended = λ ended. absurd (false≢true (sym running ∙ ended)) };
     source = omega arith;
     sink_faults = omega arith;
     valid = valid;
@@ -134,9 +135,9 @@ module _ {S K : Type 0} (G : source.Ghosts S) (H : sink.Ghosts K) where
   -- one line was answered
   pub Answering-line : (first : State) (reader : LineReader S G) (output : K) (now : LineReader S G) (sink : K) (state : State) (written : List ℕ) → Answering G H first reader output now sink state written
       → (new : LineReader S G) (sink' : K) (state' : State) (line : Line) (text bytes : List ℕ) → (line ≡ End → ⊥) → IsNextLine LINE_LIMIT line (rest now) (rest new) → TakesOff now new bytes
-      → taken new ≤ 2 ^ 30 → faults now ≤ faults new → text ≡ reply_text (reply state line) → state' ≡ next state line → H.taken sink' ≡ told_then (H.taken sink) text → H.faults sink ≤ H.faults sink' → HasValidObjects state'.space state'.members
+      → IsOpen new → faults now ≤ faults new → text ≡ reply_text (reply state line) → state' ≡ next state line → H.taken sink' ≡ told_then (H.taken sink) text → H.faults sink ≤ H.faults sink' → HasValidObjects state'.space state'.members
       → Answering G H first reader output new sink' state' (written ++ text)
-  Answering-line first reader output now sink state written so new sink' state' line text bytes not_end comes off total grew replies goes puts grew' valid =
+  Answering-line first reader output now sink state written so new sink' state' line text bytes not_end comes off is_open grew replies goes puts grew' valid =
       let sofar = so.source in
       let sofar' = so.sink_faults in record {
         wrote = puts ∙ ap (λ t. told_then t text) so.wrote ∙ told_then-append (H.taken output) written text;
@@ -155,7 +156,7 @@ module _ {S K : Type 0} (G : source.Ghosts S) (H : sink.Ghosts K) where
               record { text = append_assoc written text (play_lines state' (lines_of LINE_LIMIT count.0)) ∙ ap (λ t. written ++ t) (sym more) ∙ follows.2.text },
               count.3,
             );
-        total = total;
+        is_open = is_open;
         source = omega arith;
         sink_faults = omega arith;
         valid = valid;

@@ -1,8 +1,8 @@
 //! The top call.
-ghost use Rattle.std.specs.Prelude.{◌≡◌, ◌≢◌, ℕ, List, [], Some, None, map, OnOk};
+ghost use Rattle.std.specs.Prelude.{false, ◌≡◌, ◌≢◌, ℕ, List, [], Some, None, map, OnOk};
 ghost use Rattle.std.specs.String.{string_bytes};
 ghost use Rattle.metrics_builtin.specs.declared.Space.{Space};
-ghost use Rattle.spb_edge.specs.Reader.{unread, rest, taken, faults};
+ghost use Rattle.spb_edge.specs.Reader.{unread, rest, taken, faults, has_ended};
 ghost use Rattle.spb_defs.specs.State.{empty_in_memory};
 ghost use Rattle.spb_defs.specs.Step.{reply, next};
 ghost use Rattle.spb_defs.specs.ReplyText.{reply_text};
@@ -66,6 +66,7 @@ fn answer_lines<S: Source, K: Sink>(
 ) -> Status
     requires nothing_taken { taken reader.old ≡ 0 }
     requires nothing_unread { unread reader.old ≡ [] }
+    requires not_ended { has_ended reader.old ≡ false }
     ensures text { (script : List ℕ) → rest reader.old ≡ Some script
         → Writes result (K.taken output.old) (K.taken output.new) (play (empty_in_memory (Space.L1 metric.dim metric.most)) script) }
     ensures input { EndsInput result (rest reader.new) }

@@ -47,7 +47,7 @@ loop-line-preserved-in-Ok-put_all g c =
         _,
         Answering-line g.S.Source g.K.Sink (empty_in_memory (L1 c.args.metric.dim c.args.metric.most)) c.args.reader.now c.args.output.now c.loop-line.reader c.loop-line.output (state_of c.loop-line.store) _ c.loop-line.invariant.1.1
             c.take_line.new.self c.put_all.new.sink (state_of c.respond.new.store) c.in-Ok-take_line.line c.as_slice.result.now consumed.0 not_end c.in-Ok-take_line.ensures.line consumed.1
-            read.1 read.0 (c.as_slice.ensures ∙ c.in-Ok-respond.ensures.text) c.in-Ok-respond.ensures.next c.in-Ok-put_all.ensures.puts c.in-Ok-put_all.ensures.fault c.in-Ok-respond.ensures.valid,
+            c.in-Ok-take_line.ensures.open read.0 (c.as_slice.ensures ∙ c.in-Ok-respond.ensures.text) c.in-Ok-respond.ensures.next c.in-Ok-put_all.ensures.puts c.in-Ok-put_all.ensures.fault c.in-Ok-respond.ensures.valid,
       ),
     )
 
@@ -61,6 +61,6 @@ loop-line-preserved g c =
         _,
         Answering-line g.S.Source g.K.Sink (empty_in_memory (L1 c.args.metric.dim c.args.metric.most)) c.args.reader.now c.args.output.now c.loop-line.reader c.loop-line.output (state_of c.loop-line.store) _ c.loop-line.invariant.1.1
             c.take_line.new.self c.put_all.new.sink (state_of c.respond.new.store) c.in-Ok-take_line.line c.as_slice.result.now consumed.0 not_end c.in-Ok-take_line.ensures.line consumed.1
-            read.1 read.0 (c.as_slice.ensures ∙ c.in-Ok-respond.ensures.text) c.in-Ok-respond.ensures.next c.in-Ok-put_all.ensures.puts c.in-Ok-put_all.ensures.fault c.in-Ok-respond.ensures.valid,
+            c.in-Ok-take_line.ensures.open read.0 (c.as_slice.ensures ∙ c.in-Ok-respond.ensures.text) c.in-Ok-respond.ensures.next c.in-Ok-put_all.ensures.puts c.in-Ok-put_all.ensures.fault c.in-Ok-respond.ensures.valid,
       ),
     )

@@ -1,5 +1,4 @@
-use Rattle.std.proofs.Common.{◌≡◌, ◌+◌, ◌++◌, ◌∷◌, length, take, drop, refl, sym, ap, ◌∙◌, arith, rules}
-use Rattle.spb_edge.specs.Lines.{line_of}
+use Rattle.std.proofs.Common.{◌+◌, ◌++◌, ◌∷◌, take, sym, ap, ◌∙◌, arith}
 use Rattle.spb_edge.specs.Reader.{unread}
 use Rattle.spb_edge.proofs.Cuts.{HasNoLf-take, HasNoLf-all, cut_at, range-later, range-empty}
 use Rattle.spb_edge.proofs.reader.LineReader.scan.Goals as goal

@@ -1,0 +1,159 @@
+//! That each call can succeed, how errors print, and worked streams.
+ghost use Rattle.std.specs.Prelude.{OnOk};
+ghost use Rattle.spb_edge.specs.Reader.{IsOpen};
+
+use super::*;
+use std::alloc::Global;
+use std::test::Fail;
+
+/// Writes down the next line, and a bar behind it.
+fn note<S: Source>(
+    reader: &mut LineReader<'_, S>,
+    alloc: Global,
+    limit: usize,
+    notes: &mut Bytes,
+) -> Result<(), Fail>
+    requires { IsOpen reader.old }
+    ensures { OnOk result (IsOpen reader.new) }
+{
+    match reader.take_line(alloc, limit)? {
+        Line::Text(text) => notes.append(text.as_slice())?,
+        Line::Long => notes.append(b"(long)")?,
+        Line::End => notes.append(b"(end)")?,
+    }
+    notes.append(b"|")?;
+    Ok(())
+}
+
+/// The first six answers on the stream.
+fn notes_of(alloc: Global, stream: &[u8], limit: usize, piece: usize) -> Result<Bytes, Fail> {
+    let mut notes = Bytes::of(alloc, &[])?;
+    let mut source = MemSource::new(alloc, stream, piece.max(1), &[])?;
+    let mut reader = LineReader::new(alloc, &mut source)?;
+    note(&mut reader, alloc, limit, &mut notes)?;
+    note(&mut reader, alloc, limit, &mut notes)?;
+    note(&mut reader, alloc, limit, &mut notes)?;
+    note(&mut reader, alloc, limit, &mut notes)?;
+    note(&mut reader, alloc, limit, &mut notes)?;
+    note(&mut reader, alloc, limit, &mut notes)?;
+    Ok(notes)
+}
+
+#[test]
+fn lines_whatever_the_pieces(rt: HostRuntime) -> Result<(), Fail> {
+    for (stream, limit, notes) in [
+        ("ab\n\ncdefg\nx", 4, "ab||(long)|x|(end)|(end)|"),
+        ("", 4, "(end)|(end)|(end)|(end)|(end)|(end)|"),
+        ("\n", 0, "|(end)|(end)|(end)|(end)|(end)|"),
+        ("a\r\n\r\nb\r", 2, "a\r|\r|b\r|(end)|(end)|(end)|"),
+        ("abcd\nabcde", 4, "abcd|(long)|(end)|(end)|(end)|(end)|"),
+    ] {
+        for piece in [1, 3, 64] {
+            let answered = notes_of(rt.alloc(), stream.as_bytes(), limit, piece)?;
+            assert!(rt;
+                answered.as_slice() == notes.as_bytes(),
+                "{stream} by {piece}"
+            );
+        }
+    }
+    Ok(())
+}
+
+#[test]
+fn a_source_that_fails_in_mid_stream(rt: HostRuntime) -> Result<(), Fail> {
+    let mut notes = Bytes::of(rt.alloc(), &[])?;
+    let mut source = MemSource::new(rt.alloc(), b"ab\ncd\n", 3, &[2])?;
+    let mut reader = LineReader::new(rt.alloc(), &mut source)?;
+    note(&mut reader, rt.alloc(), 4, &mut notes)?;
+    assert!(rt; notes.as_slice() == b"ab|".as_slice());
+    match reader.take_line(rt.alloc(), 4) {
+        Err(e) => assert!(rt; e == EdgeError::ReadFault),
+        Ok(_) => panic!(rt; "a line"),
+    }
+    Ok(())
+}
+
+#[test]
+fn an_ended_source_is_not_asked_again(rt: HostRuntime) -> Result<(), Fail> {
+    let mut notes = Bytes::of(rt.alloc(), &[])?;
+    let mut source = MemSource::new(rt.alloc(), b"ab", 2, &[3])?;
+    let mut reader = LineReader::new(rt.alloc(), &mut source)?;
+    note(&mut reader, rt.alloc(), 4, &mut notes)?;
+    note(&mut reader, rt.alloc(), 4, &mut notes)?;
+    note(&mut reader, rt.alloc(), 4, &mut notes)?;
+    assert!(rt; notes.as_slice() == b"ab|(end)|(end)|".as_slice());
+    Ok(())
+}
+
+#[test]
+fn an_endless_source_fills_the_buffer(rt: HostRuntime) {
+    let mut source = EndlessSource { byte: 7 };
+    let mut buffer = [0; 5];
+    assert!(rt; source.take(&mut buffer) == Take::Got(5));
+    assert_eq!(rt; buffer, [7; 5]);
+}
+
+#[test]
+fn puts_what_there_is_room_for(rt: HostRuntime) -> Result<(), Fail> {
+    let rows: [(usize, &[u64], Result<(), WriteFault>, &str); 3] = [
+        (6, &[], Ok(()), "abcdef"),
+        (4, &[], Err(WriteFault), "abcd"),
+        (6, &[1], Err(WriteFault), ""),
+    ];
+    for (room, failing, result, front) in rows {
+        let mut sink = MemSink::new(rt.alloc(), room, failing)?;
+        assert!(rt; put_all(&mut sink, b"abcdef") == result, "room for {room}");
+        assert!(rt; sink.taken() == front.as_bytes(), "room for {room}");
+    }
+    Ok(())
+}
+
+#[test]
+fn a_disk_reads_back(rt: HostRuntime) -> Result<(), Fail> {
+    let mut disk = SureDisk::new(rt.alloc(), b"abcd")?;
+    disk.write_at(3, b"xyz")?;
+    disk.write_at(0, b"A")?;
+    disk.sync()?;
+    assert_eq!(rt; disk.size()?, 6);
+    let mut image = [0; 6];
+    disk.read(0, &mut image)?;
+    assert_eq!(rt; image, *b"Abcxyz");
+    Ok(())
+}
+
+#[test]
+fn lists_grow_and_are_cleared(rt: HostRuntime) -> Result<(), Fail> {
+    let mut bytes = Bytes::of(rt.alloc(), b"ab")?;
+    bytes.append(b"c")?;
+    assert!(rt; bytes.as_slice() == b"abc".as_slice());
+    bytes.clear();
+    assert!(rt; bytes.as_slice().is_empty());
+    let mut ids = Ids::of(rt.alloc(), &[7])?;
+    ids.append(&[4294967295, 0])?;
+    assert!(rt; ids.as_slice() == [7, 4294967295, 0].as_slice());
+    ids.clear();
+    assert!(rt; ids.as_slice().is_empty());
+    Ok(())
+}
+
+#[test]
+fn errors_in_words(rt: HostRuntime) -> Result<(), Fail> {
+    for (e, text) in [
+        (EdgeError::ReadFault, "read fault"),
+        (EdgeError::InputLimit, "input limit"),
+        (EdgeError::Memory, "out of memory"),
+    ] {
+        assert!(rt; format!(in rt.alloc(); "{e}")?.as_str() == text);
+    }
+    for (e, text) in [
+        (DiskError::Failed, "disk fault"),
+        (DiskError::Memory, "out of memory"),
+    ] {
+        assert!(rt; format!(in rt.alloc(); "{e}")?.as_str() == text);
+    }
+    let e = Memory;
+    assert!(rt; format!(in rt.alloc(); "{e}")?.as_str() == "out of memory");
+    let e = WriteFault;
+    assert!(rt; format!(in rt.alloc(); "{e}")?.as_str() == "write fault");
+    Ok(())
+}
