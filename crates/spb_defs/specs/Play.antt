@@ -1,7 +1,7 @@
 -- The play of a script: the texts of the replies to its lines, one after the other.
 use Rattle.std.specs.Prelude.{ℕ, List, [], ◌∷◌, ◌++◌}
 use Rattle.spb_edge.specs.declared.reader.Line.{Line}
-use Rattle.spb_edge.specs.Lines.{lines_of}
+use Rattle.spb_edge.specs.Lines.{lines_of, ended_lines}
 use Rattle.spb_defs.specs.declared.TheConstants.{LINE_LIMIT}
 use Rattle.spb_defs.specs.State.{State}
 use Rattle.spb_defs.specs.Step.{reply, next}
@@ -15,3 +15,7 @@ play_lines s (line ∷ lines) = reply_text (reply s line) ++ play_lines (next s 
 -- the replies to a script from a state on
 abbrev pub play : State → List ℕ → List ℕ
 play s script = play_lines s (lines_of LINE_LIMIT script)
+
+-- the replies to the lines of a script that an LF ends
+abbrev pub play_ended : State → List ℕ → List ℕ
+play_ended s script = play_lines s (ended_lines LINE_LIMIT script)

@@ -26,3 +26,13 @@ line_of limit piece = if nat_le (length piece) limit then Text piece else Long
 -- the lines of a stream
 unfoldable pub lines_of : ℕ → List ℕ → List Line
 lines_of limit bytes = map (line_of limit) (without_empty_end (slice_split is_lf bytes))
+
+-- all items but the last
+abbrev pub all_but_last : List (List ℕ) → List (List ℕ)
+all_but_last [] = []
+all_but_last (piece ∷ []) = []
+all_but_last (piece ∷ next ∷ more) = piece ∷ all_but_last (next ∷ more)
+
+-- the lines that an LF ends
+unfoldable pub ended_lines : ℕ → List ℕ → List Line
+ended_lines limit bytes = map (line_of limit) (all_but_last (slice_split is_lf bytes))

@@ -1,7 +1,7 @@
 -- What a run keeps from line to line: what was written so far, and that the replies to what is left
 -- complete it.
-use Rattle.std.proofs.Common.{◌≡◌, ℕ, ◌+◌, ◌≤◌, List, [], ◌∷◌, ◌++◌, length, take, drop, Option, Some, None, Result, Err, refl, sym, ap, subst, ◌∙◌, append_assoc, length-append, arith}
-use Rattle.std.specs.Prelude.{false, IfSome}
+use Rattle.std.proofs.Common.{◌≡◌, ℕ, ◌+◌, ◌^◌, ◌≤◌, List, [], ◌∷◌, ◌++◌, length, take, drop, Option, Some, None, Result, Ok, Err, inl, inr, refl, sym, ap, subst, ◌∙◌, append-nil, append_assoc, length-append, arith}
+use Rattle.std.specs.Prelude.{Bool, false, IfSome, IsTrue, ◌⊎◌}
 use Rattle.std.proofs.lemmas.Bool.{false≢true}
 use Rattle.std.proofs.lemmas.List.{take_at, take-append-drop}
 use Rattle.spb_edge.specs.declared.reader.Line.{Line}
@@ -11,15 +11,16 @@ use Rattle.spb_edge.specs.declared.reader.EdgeError.TheVariants as edge
 use Rattle.spb_edge.specs.declared.reader.LineReader.{LineReader}
 use Rattle.spb_edge.specs.declared.source.Source as source
 use Rattle.spb_edge.specs.declared.sink.Sink as sink
-use Rattle.spb_edge.specs.Told.{before_told, told_then, told_then-append, told_then-nil}
-use Rattle.spb_edge.specs.Lines.{lines_of}
-use Rattle.spb_edge.specs.Reader.{unread, rest, taken, faults, has_ended, IsOpen, TakesOff, IsNextLine, NothingLeft}
+use Rattle.spb_edge.specs.Told.{before_told, before_told-nil, told_then, told_then-append, told_then-nil}
+use Rattle.spb_edge.specs.Lines.{HasNoLf, lines_of, ended_lines}
+use Rattle.spb_edge.proofs.LineLaws.{ended_lines-ended, ended_lines-none}
+use Rattle.spb_edge.specs.Reader.{unread, rest, taken, faults, has_ended, IsOpen, EndsAgain, TakesOff, IsLineAt, Spells, IsNextLine}
 use Rattle.spb_edge.specs.Reader as reads
 use Rattle.spb_defs.specs.declared.TheConstants.{LINE_LIMIT}
 use Rattle.spb_defs.specs.State.{State}
 use Rattle.spb_defs.specs.Step.{reply, next}
 use Rattle.spb_defs.specs.ReplyText.{reply_text}
-use Rattle.spb_defs.specs.Play.{play_lines, play}
+use Rattle.spb_defs.specs.Play.{play_lines, play, play_ended}
 use Rattle.spb_top.specs.Memory.{HasValidObjects}
 use Rattle.spb_edge.specs.Fault.{Rose}
 use Rattle.spb_top.specs.declared.status.Status.{Status}
@@ -30,10 +31,17 @@ use Rattle.spb_top.specs.Run.{WritesFront, Writes, EndsInput, HasCause, stopped_
 pub record Completes (script : List ℕ) (first : State) (written left : List ℕ) (now : State) : Type 0 where
   pub text : written ++ play_lines now (lines_of LINE_LIMIT left) ≡ play first script
 
+-- the bytes of whole lines, which went: whatever follows them, the replies to the lines that an LF ends
+-- begin with what was written
+pub record Went (script : List ℕ) (first : State) (written left : List ℕ) (now : State) : Type 0 where
+  pub bytes : List ℕ
+  pub split : script ≡ bytes ++ left
+  pub whole : (more : List ℕ) → play_ended first (bytes ++ more) ≡ written ++ play_ended now more
+
 -- the same of a script that is told, with the count of its bytes
 abbrev pub Follows : {S : Type 0} {G : source.Ghosts S} → List ℕ → State → List ℕ → LineReader S G → State → Type 0
 Follows script first written reader now = (left : List ℕ) × (rest reader ≡ Some left) × Completes script first written left now
-    × (taken reader + length left ≡ length (unread reader) + length script)
+    × (taken reader + length left ≡ length (unread reader) + length script) × (IsTrue (has_ended reader) ⊎ Went script first written left now)
 
 module _ {S K : Type 0} (G : source.Ghosts S) (H : sink.Ghosts K) where
   pub record Answering (first : State) (reader : LineReader S G) (output : K) (now : LineReader S G) (sink : K) (state : State) (written : List ℕ) : Type 0 where
@@ -48,7 +56,7 @@ module _ {S K : Type 0} (G : source.Ghosts S) (H : sink.Ghosts K) where
   pub Answering-start : (first : State) (reader : LineReader S G) (output : K) → taken reader ≡ 0 → unread reader ≡ [] → has_ended reader ≡ false → HasValidObjects first.space first.members → Answering first reader output reader output first []
   Answering-start first reader output none empty running valid = record {
     wrote = sym (told_then-nil (H.taken output));
-    follows = λ script told. (script, told, record { text = refl }, omega (arith, ap length empty, none));
+    follows = λ script told. (script, told, record { text = refl }, omega (arith, ap length empty, none), inr (record { bytes = []; split = refl; whole = λ more. refl }));
     is_open = record { total = omega arith; ended = λ ended. absurd (false≢true (sym running ∙ ended)) };
     source = omega arith;
     sink_faults = omega arith;
@@ -60,7 +68,7 @@ module _ {S K : Type 0} (G : source.Ghosts S) (H : sink.Ghosts K) where
 some_is_not_none : {A : Type 0} {x : A} → Some x ≡ None → ⊥
 some_is_not_none e = cc
 
-some_is : {A : Type 0} {x y : A} → Some x ≡ Some y → x ≡ y
+pub some_is : {A : Type 0} {x y : A} → Some x ≡ Some y → x ≡ y
 some_is e = cc
 
 -- a line that comes is the first of those left
@@ -95,6 +103,55 @@ module _ {S : Type 0} {G : source.Ghosts S} where
         unread_in (unread new) at.0 (G.left new.source.now) at.1,
       )
 
+-- ---- the bytes of whole lines
+
+-- a line that is answered isn't the end, so the source hadn't ended
+running : (line : Line) → (line ≡ End → ⊥) → EndsAgain (Ok line) → ⊥
+running (Text text) not_end again = again
+running Long not_end again = again
+running End not_end again = not_end refl
+
+-- the bytes of a line that is answered
+pub line_at : (line : Line) (bytes : List ℕ) (left : Option (List ℕ)) (ended : Bool) → (line ≡ End → ⊥) → Spells LINE_LIMIT (Ok line) bytes left ended → IsLineAt LINE_LIMIT line bytes left ended
+line_at (Text text) bytes left ended not_end at = at
+line_at Long bytes left ended not_end at = at
+line_at End bytes left ended not_end at = absurd (not_end refl)
+
+-- one whole line more went, or the source has ended behind the last
+went_line : (script : List ℕ) (first : State) (written left left' : List ℕ) (state state' : State) (line : Line) (text bytes : List ℕ) (behind : Option (List ℕ)) (ended ended' : Bool)
+    → (IsTrue ended ⊎ Went script first written left state) → (IsTrue ended → ⊥) → IsLineAt LINE_LIMIT line bytes behind ended' → left ≡ bytes ++ left' → text ≡ reply_text (reply state line) → state' ≡ next state line
+    → IsTrue ended' ⊎ Went script first (written ++ text) left' state'
+went_line script first written left left' state state' line text bytes behind ended ended' (inl end) not_ended how cut replies goes = absurd (not_ended end)
+went_line script first written left left' state state' line text bytes behind ended ended' (inr went) not_ended (piece, none, is, inr last) cut replies goes = inl last.3
+went_line script first written left left' state state' line text bytes behind ended ended' (inr went) not_ended (piece, none, is, inl lf) cut replies goes =
+    inr (record {
+      bytes = went.bytes ++ bytes;
+      split = went.split ∙ ap (λ xs. went.bytes ++ xs) cut ∙ sym (append_assoc went.bytes bytes left');
+      whole = λ more.
+          let cells : bytes ++ more ≡ piece ++ 10 ∷ more = ap (λ xs. xs ++ more) lf ∙ append_assoc piece (10 ∷ []) more in
+          let lines : ended_lines LINE_LIMIT (bytes ++ more) ≡ line ∷ ended_lines LINE_LIMIT more =
+          ap (ended_lines LINE_LIMIT) cells ∙ ended_lines-ended LINE_LIMIT piece more none ∙ ap (λ l. l ∷ ended_lines LINE_LIMIT more) (sym is) in
+          ap (play_ended first) (append_assoc went.bytes bytes more) ∙ went.whole (bytes ++ more)
+          ∙ ap (λ ls. written ++ play_lines state ls) lines
+          ∙ ap (λ t. written ++ (t ++ play_lines (next state line) (ended_lines LINE_LIMIT more))) (sym replies)
+          ∙ ap (λ st. written ++ (text ++ play_lines st (ended_lines LINE_LIMIT more))) (sym goes)
+          ∙ sym (append_assoc written text (play_ended state' more));
+    })
+
+-- where the source hadn't ended, whole lines went
+went_of : (script : List ℕ) (first : State) (written left : List ℕ) (state : State) (ended : Bool) → (IsTrue ended ⊎ Went script first written left state) → (IsTrue ended → ⊥) → Went script first written left state
+went_of script first written left state ended (inl end) not_ended = absurd (not_ended end)
+went_of script first written left state ended (inr went) not_ended = went
+
+-- behind whole lines came bytes that no LF ended
+went_unended : (script : List ℕ) (first : State) (written left bytes left' : List ℕ) (state : State) → Went script first written left state → HasNoLf bytes → left ≡ bytes ++ left'
+    → (took : List ℕ) × (script ≡ took ++ left') × (play_ended first took ≡ written)
+went_unended script first written left bytes left' state went none cut = (
+  went.bytes ++ bytes,
+  went.split ∙ ap (λ xs. went.bytes ++ xs) cut ∙ sym (append_assoc went.bytes bytes left'),
+  went.whole bytes ∙ ap (λ ls. written ++ play_lines state ls) (ended_lines-none LINE_LIMIT bytes none) ∙ append-nil written,
+)
+
 -- ---- how a run ends
 
 IfSome-from : {A : Type 0} {P : A → Type 0} (o : Option A) → ((x : A) → o ≡ Some x → P x) → IfSome o P
@@ -104,10 +161,24 @@ IfSome-from (Some x) h = h x refl
 pub Rose-later : (before between now : ℕ) → before ≤ between → Rose between now → Rose before now
 Rose-later before between now no_less rose = omega arith
 
-stopped_front : (old new : Option (List ℕ)) (text : List ℕ) (e : EdgeError) → WritesFront old new text → Writes (stopped_by e) old new text
-stopped_front old new text edge.ReadFault front = front
-stopped_front old new text edge.InputLimit front = front
-stopped_front old new text edge.Memory front = front
+nothing_unread : (unread : List ℕ) → length unread ≡ 0 → unread ≡ []
+nothing_unread [] none = refl
+nothing_unread (b ∷ unread) none = absurd (omega (arith, none))
+
+-- what stopped the reader says which lines were answered
+stopped_text : (e : EdgeError) (first : State) (script written left' : List ℕ) (old new : Option (List ℕ)) (behind : Option (List ℕ)) (unread : List ℕ) (before now total : ℕ)
+    → WritesFront old new (play first script) → new ≡ told_then old written → reads.HasCause (Err e) before now total (length unread)
+    → before_told unread behind ≡ Some left' → total + length left' ≡ length unread + length script
+    → (e ≡ edge.Memory → ⊥) → (took : List ℕ) × (script ≡ took ++ left') × (play_ended first took ≡ written) → Writes (stopped_by e) first script behind old new
+stopped_text edge.ReadFault first script written left' old new behind unread before now total front wrote cause told count is (took, split, text) =
+    let none : unread ≡ [] = nothing_unread unread cause.3 in
+    let left : behind ≡ Some left' = sym (before_told-nil behind) ∙ ap (λ xs. before_told xs behind) (sym none) ∙ told in
+    (front, (took, ap Some split ∙ ap (before_told took) (sym left), wrote ∙ ap (told_then old) (sym text)))
+stopped_text edge.InputLimit first script written left' old new behind unread before now total front wrote cause told count is (took, split, text) =
+    let long : length took ≡ 2 ^ 30 = omega (arith, cause.2, count, ap length split, length-append took left') in
+    let within : take (2 ^ 30) script ≡ took = ap (take (2 ^ 30)) split ∙ take_at took left' (2 ^ 30) long in
+    (front, wrote ∙ ap (told_then old) (sym text ∙ ap (play_ended first) (sym within)))
+stopped_text edge.Memory first script written left' old new behind unread before now total front wrote cause told count is took = absurd (is refl)
 
 stopped_cause : (e : EdgeError) (source_before between source_now sink_before sink_now total : ℕ) (unread : List ℕ) (told : Option (List ℕ)) → source_before ≤ between → sink_before ≤ sink_now
     → reads.HasCause (Err e) between source_now total (length unread)
@@ -135,9 +206,9 @@ module _ {S K : Type 0} (G : source.Ghosts S) (H : sink.Ghosts K) where
   -- one line was answered
   pub Answering-line : (first : State) (reader : LineReader S G) (output : K) (now : LineReader S G) (sink : K) (state : State) (written : List ℕ) → Answering G H first reader output now sink state written
       → (new : LineReader S G) (sink' : K) (state' : State) (line : Line) (text bytes : List ℕ) → (line ≡ End → ⊥) → IsNextLine LINE_LIMIT line (rest now) (rest new) → TakesOff now new bytes
-      → IsOpen new → faults now ≤ faults new → text ≡ reply_text (reply state line) → state' ≡ next state line → H.taken sink' ≡ told_then (H.taken sink) text → H.faults sink ≤ H.faults sink' → HasValidObjects state'.space state'.members
+      → IsOpen new → (IsTrue (has_ended now) → EndsAgain (Ok line)) → IsLineAt LINE_LIMIT line bytes (rest new) (has_ended new) → faults now ≤ faults new → text ≡ reply_text (reply state line) → state' ≡ next state line → H.taken sink' ≡ told_then (H.taken sink) text → H.faults sink ≤ H.faults sink' → HasValidObjects state'.space state'.members
       → Answering G H first reader output new sink' state' (written ++ text)
-  Answering-line first reader output now sink state written so new sink' state' line text bytes not_end comes off is_open grew replies goes puts grew' valid =
+  Answering-line first reader output now sink state written so new sink' state' line text bytes not_end comes off is_open after how grew replies goes puts grew' valid =
       let sofar = so.source in
       let sofar' = so.sink_faults in record {
         wrote = puts ∙ ap (λ t. told_then t text) so.wrote ∙ told_then-append (H.taken output) written text;
@@ -155,6 +226,7 @@ module _ {S K : Type 0} (G : source.Ghosts S) (H : sink.Ghosts K) where
               count.1,
               record { text = append_assoc written text (play_lines state' (lines_of LINE_LIMIT count.0)) ∙ ap (λ t. written ++ t) (sym more) ∙ follows.2.text },
               count.3,
+              went_line script first written follows.0 count.0 state state' line text bytes (rest new) (has_ended now) (has_ended new) follows.4 (λ end. running line not_end (after end)) how count.2 replies goes,
             );
         is_open = is_open;
         source = omega arith;
@@ -177,11 +249,37 @@ module _ {S K : Type 0} (G : source.Ghosts S) (H : sink.Ghosts K) where
       (puts ∙ ap (λ t. told_then t (take n text)) so.wrote ∙ told_then-append (H.taken output) written (take n text))
       (append_assoc written (take n text) (drop n text ++ behind) ∙ ap (λ t. written ++ t) (sym more) ∙ follows.2.text)
 
+  -- bytes that no LF ended came, and then a fault or the limit
+  text_cut : (first : State) (reader : LineReader S G) (output : K) (now : LineReader S G) (sink : K) (state : State) (written : List ℕ) → Answering G H first reader output now sink state written
+      → (new : LineReader S G) (bytes : List ℕ) → TakesOff now new bytes → (e : EdgeError) → reads.HasCause (Err e) (faults now) (faults new) (taken new) (length (unread new)) → HasNoLf bytes → (IsTrue (has_ended now) → ⊥) → (e ≡ edge.Memory → ⊥)
+      → (script : List ℕ) → rest reader ≡ Some script → Writes (stopped_by e) first script (G.left new.source.now) (H.taken output) (H.taken sink)
+  text_cut first reader output now sink state written so new bytes off e cause none not_ended not_memory script told =
+      let follows = so.follows script told in
+      let count = counts_off script follows.0 bytes now new follows.1 follows.3 off in
+      let went = went_of script first written follows.0 state (has_ended now) follows.4 not_ended in
+      stopped_text e first script written count.0 (H.taken output) (H.taken sink) (G.left new.source.now) (unread new) (faults now) (faults new) (taken new)
+      (front_so_far first reader output now sink state written so script told) so.wrote cause count.1 count.3 not_memory
+      (went_unended script first written follows.0 bytes count.0 state went none count.2)
+
+  text_by : (first : State) (reader : LineReader S G) (output : K) (now : LineReader S G) (sink : K) (state : State) (written : List ℕ) → Answering G H first reader output now sink state written
+      → (new : LineReader S G) (bytes : List ℕ) → TakesOff now new bytes → (e : EdgeError) → reads.HasCause (Err e) (faults now) (faults new) (taken new) (length (unread new)) → HasNoLf bytes → (IsTrue (has_ended now) → EndsAgain (Err e))
+      → (script : List ℕ) → rest reader ≡ Some script → Writes (stopped_by e) first script (G.left new.source.now) (H.taken output) (H.taken sink)
+  text_by first reader output now sink state written so new bytes off edge.Memory cause none again script told = front_so_far first reader output now sink state written so script told
+  text_by first reader output now sink state written so new bytes off edge.ReadFault cause none again script told =
+      text_cut first reader output now sink state written so new bytes off edge.ReadFault cause none again (λ e. cc) script told
+  text_by first reader output now sink state written so new bytes off edge.InputLimit cause none again script told =
+      text_cut first reader output now sink state written so new bytes off edge.InputLimit cause none again (λ e. cc) script told
+
   -- no line came: the run ends with what stopped the reader
-  pub front_stopped : (first : State) (reader : LineReader S G) (output : K) (now : LineReader S G) (sink : K) (state : State) (written : List ℕ) → Answering G H first reader output now sink state written
-      → (e : EdgeError) (status : Status) → status ≡ stopped_by e → (script : List ℕ) → rest reader ≡ Some script → Writes status (H.taken output) (H.taken sink) (play first script)
-  front_stopped first reader output now sink state written so e status is script told =
-      subst (λ s. Writes s (H.taken output) (H.taken sink) (play first script)) (sym is) (stopped_front _ _ _ e (front_so_far first reader output now sink state written so script told))
+  pub text_stopped : (first : State) (reader : LineReader S G) (output : K) (now : LineReader S G) (sink : K) (state : State) (written : List ℕ) → Answering G H first reader output now sink state written
+      → (new : LineReader S G) (bytes : List ℕ) → TakesOff now new bytes → (e : EdgeError) (r : Result Line EdgeError) → r ≡ Err e → reads.HasCause r (faults now) (faults new) (taken new) (length (unread new)) → Spells LINE_LIMIT r bytes (rest new) (has_ended new) → (IsTrue (has_ended now) → EndsAgain r) → (status : Status) → status ≡ stopped_by e
+      → (script : List ℕ) → rest reader ≡ Some script → Writes status first script (G.left new.source.now) (H.taken output) (H.taken sink)
+  text_stopped first reader output now sink state written so new bytes off e r failed cause spells after status is script told =
+      subst (λ s. Writes s first script (G.left new.source.now) (H.taken output) (H.taken sink)) (sym is)
+      (text_by first reader output now sink state written so new bytes off e
+      (subst (λ x. reads.HasCause x (faults now) (faults new) (taken new) (length (unread new))) failed cause)
+      (subst (λ x. Spells LINE_LIMIT x bytes (rest new) (has_ended new)) failed spells)
+      (λ end. subst EndsAgain failed (after end)) script told)
 
   -- why the run ends with what stopped the reader
   pub cause_stopped : (first : State) (reader : LineReader S G) (output : K) (now : LineReader S G) (sink : K) (state : State) (written : List ℕ) → Answering G H first reader output now sink state written

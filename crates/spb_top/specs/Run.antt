@@ -1,7 +1,9 @@
 -- What a run says of its input, its output and its status.
 use Rattle.std.specs.Prelude.{◌≡◌, ◌↔◌, ℕ, ◌<◌, ◌≤◌, ◌^◌, List, [], length, take, Option, Some, None, IfSome}
 use Rattle.metrics_builtin.specs.declared.Space.{Space}
-use Rattle.spb_edge.specs.Told.{told_then}
+use Rattle.spb_edge.specs.Told.{before_told, told_then}
+use Rattle.spb_defs.specs.State.{State}
+use Rattle.spb_defs.specs.Play.{play, play_ended}
 use Rattle.spb_edge.specs.Fault.{Rose}
 use Rattle.spb_edge.specs.declared.reader.EdgeError.{EdgeError}
 use Rattle.spb_edge.specs.declared.reader.EdgeError.TheVariants as edge
@@ -12,14 +14,21 @@ use Rattle.spb_top.specs.declared.status.Status.TheVariants.{Done, Usage, NoMemo
 abbrev pub WritesFront : Option (List ℕ) → Option (List ℕ) → List ℕ → Type 0
 WritesFront old new text = (n : ℕ) × (new ≡ told_then old (take n text))
 
--- what was written: all of the text on Done, nothing on Usage, and a front of it on every other status
-abbrev pub Writes : Status → Option (List ℕ) → Option (List ℕ) → List ℕ → Type 0
-Writes Done old new text = new ≡ told_then old text
-Writes Usage old new text = new ≡ old
-Writes NoMemory old new text = WritesFront old new text
-Writes ReadFault old new text = WritesFront old new text
-Writes WriteFault old new text = WritesFront old new text
-Writes InputLimit old new text = WritesFront old new text
+-- the replies to the lines that an LF ends among the bytes taken were written
+abbrev pub WritesEnded : State → List ℕ → Option (List ℕ) → Option (List ℕ) → Option (List ℕ) → Type 0
+WritesEnded first script left old new = (took : List ℕ) × (Some script ≡ before_told took left) × (new ≡ told_then old (play_ended first took))
+
+-- what was written of the replies to a script, by the status: all of them on Done, nothing on Usage, and a
+-- front of them on every other status. On ReadFault and InputLimit these are the replies to the lines that
+-- an LF ends among the bytes taken, or among those within the limit. `left` is what the input has left.
+abbrev pub Writes : Status → State → List ℕ → Option (List ℕ) → Option (List ℕ) → Option (List ℕ) → Type 0
+Writes Done first script left old new = new ≡ told_then old (play first script)
+Writes Usage first script left old new = new ≡ old
+Writes NoMemory first script left old new = WritesFront old new (play first script)
+Writes ReadFault first script left old new = WritesFront old new (play first script) × WritesEnded first script left old new
+Writes WriteFault first script left old new = WritesFront old new (play first script)
+Writes InputLimit first script left old new =
+    WritesFront old new (play first script) × (new ≡ told_then old (play_ended first (take (2 ^ 30) script)))
 
 -- on Done nothing is left of the input, where that is told
 abbrev pub EndsInput : Status → Option (List ℕ) → Type 0

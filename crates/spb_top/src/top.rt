@@ -6,7 +6,6 @@ ghost use Rattle.spb_edge.specs.Reader.{unread, rest, taken, faults, has_ended};
 ghost use Rattle.spb_defs.specs.State.{empty_in_memory};
 ghost use Rattle.spb_defs.specs.Step.{reply, next};
 ghost use Rattle.spb_defs.specs.ReplyText.{reply_text};
-ghost use Rattle.spb_defs.specs.Play.{play};
 ghost use Rattle.spb_defs.specs.Words.{space_of};
 ghost use Rattle.spb_top.specs.Memory.{state_of, IsSound};
 ghost use Rattle.spb_top.specs.Run.{Asks, Writes, EndsInput, HasCause, Completes, stopped_by};
@@ -39,7 +38,7 @@ fn answer_input<S: Source, K: Sink>(
     output: &mut K,
 ) -> Status
     ensures text { (script : List ℕ) → S.left input.old ≡ Some script
-        → Writes result (K.taken output.old) (K.taken output.new) (play (empty_in_memory (Space.L1 metric.dim metric.most)) script) }
+        → Writes result (empty_in_memory (Space.L1 metric.dim metric.most)) script (S.left input.new) (K.taken output.old) (K.taken output.new) }
     ensures input { EndsInput result (S.left input.new) }
     ensures cause { HasCause result
         (record {
@@ -68,7 +67,7 @@ fn answer_lines<S: Source, K: Sink>(
     requires nothing_unread { unread reader.old ≡ [] }
     requires not_ended { has_ended reader.old ≡ false }
     ensures text { (script : List ℕ) → rest reader.old ≡ Some script
-        → Writes result (K.taken output.old) (K.taken output.new) (play (empty_in_memory (Space.L1 metric.dim metric.most)) script) }
+        → Writes result (empty_in_memory (Space.L1 metric.dim metric.most)) script (S.left reader.new.source.now) (K.taken output.old) (K.taken output.new) }
     ensures input { EndsInput result (rest reader.new) }
     ensures cause { HasCause result
         (record {
@@ -132,11 +131,12 @@ pub fn run<S: Source, K: Sink, D: Disk>(
     // It ends as Usage exactly where the words aren't in the grammar.
     ensures words { Asks (space_of (map string_bytes words.now)) result }
 
-    // What is written is what scanning all objects gives: all of it on Done, nothing on Usage, and a front
-    // of it on every other status, however the input is cut into pieces.
+    // What is written is what scanning all objects gives, however the input is cut into pieces: all of it
+    // on Done, the replies to the lines that an LF ended on ReadFault and InputLimit, and a front of it on
+    // the other statuses.
     ensures text { (space : Space) → space_of (map string_bytes words.now) ≡ Some space
         → (script : List ℕ) → S.left input.old ≡ Some script
-        → Writes result (K.taken output.old) (K.taken output.new) (play (empty_in_memory space) script) }
+        → Writes result (empty_in_memory space) script (S.left input.new) (K.taken output.old) (K.taken output.new) }
     ensures usage { result ≡ Status.Usage → (input.new ≡ input.old) × (output.new ≡ output.old) }
     ensures input { EndsInput result (S.left input.new) }
 

@@ -4,12 +4,14 @@ use Rattle.metrics_builtin.specs.declared.Space.TheVariants.{L1}
 use Rattle.spb_edge.specs.declared.reader.Line.TheVariants.{End}
 use Rattle.spb_defs.specs.State.{empty_in_memory}
 use Rattle.spb_top.specs.Memory.{state_of}
-use Rattle.spb_top.proofs.Running.{Answering-line, front_so_far, front_of_reply, front_stopped, cause_stopped, Rose-later}
+use Rattle.spb_top.proofs.Running.{Answering-line, front_so_far, front_of_reply, line_at, text_stopped, cause_stopped, Rose-later}
 use Rattle.spb_top.proofs.top.answer_lines.Goals as goal
 
 pub returns-in-Err-clause-text : goal.returns-in-Err-clause-text
 returns-in-Err-clause-text g c =
-    front_stopped g.S.Source g.K.Sink (empty_in_memory (L1 c.args.metric.dim c.args.metric.most)) c.args.reader.now c.args.output.now c.loop-line.reader c.loop-line.output (state_of c.loop-line.store) _ c.loop-line.invariant.1.1 c.in-Err.e c.stopped.result c.stopped.ensures
+    let consumed = c.take_line.ensures.consumed in
+    text_stopped g.S.Source g.K.Sink (empty_in_memory (L1 c.args.metric.dim c.args.metric.most)) c.args.reader.now c.args.output.now c.loop-line.reader c.loop-line.output (state_of c.loop-line.store) _ c.loop-line.invariant.1.1
+    c.take_line.new.self consumed.0 consumed.1 c.in-Err.e c.take_line.result c.in-Err.is c.take_line.ensures.cause consumed.2 c.take_line.ensures.after_end c.stopped.result c.stopped.ensures
 
 pub returns-in-Err-clause-cause : goal.returns-in-Err-clause-cause
 returns-in-Err-clause-cause g c =
@@ -40,27 +42,27 @@ returns-in_default-put_all-clause-cause g c =
 pub loop-line-preserved-in-Ok-put_all : goal.loop-line-preserved-in-Ok-put_all
 loop-line-preserved-in-Ok-put_all g c =
     let not_end : c.in-Ok-take_line.line ≡ End → ⊥ = λ e. false≢true (sym c.if-is_end.false ∙ c.is_end.ensures.1 e) in
-    let consumed = c.take_line.ensures.consumed in
+    let consumed = c.in-Ok-take_line.ensures.consumed in
     let read = c.in-Ok-take_line.ensures.cause in (
       search rules,
       (
         _,
         Answering-line g.S.Source g.K.Sink (empty_in_memory (L1 c.args.metric.dim c.args.metric.most)) c.args.reader.now c.args.output.now c.loop-line.reader c.loop-line.output (state_of c.loop-line.store) _ c.loop-line.invariant.1.1
             c.take_line.new.self c.put_all.new.sink (state_of c.respond.new.store) c.in-Ok-take_line.line c.as_slice.result.now consumed.0 not_end c.in-Ok-take_line.ensures.line consumed.1
-            c.in-Ok-take_line.ensures.open read.0 (c.as_slice.ensures ∙ c.in-Ok-respond.ensures.text) c.in-Ok-respond.ensures.next c.in-Ok-put_all.ensures.puts c.in-Ok-put_all.ensures.fault c.in-Ok-respond.ensures.valid,
+            c.in-Ok-take_line.ensures.open c.in-Ok-take_line.ensures.after_end (line_at _ _ _ _ not_end consumed.2) read.0 (c.as_slice.ensures ∙ c.in-Ok-respond.ensures.text) c.in-Ok-respond.ensures.next c.in-Ok-put_all.ensures.puts c.in-Ok-put_all.ensures.fault c.in-Ok-respond.ensures.valid,
       ),
     )
 
 pub loop-line-preserved : goal.loop-line-preserved
 loop-line-preserved g c =
     let not_end : c.in-Ok-take_line.line ≡ End → ⊥ = λ e. false≢true (sym c.if-is_end.false ∙ c.is_end.ensures.1 e) in
-    let consumed = c.take_line.ensures.consumed in
+    let consumed = c.in-Ok-take_line.ensures.consumed in
     let read = c.in-Ok-take_line.ensures.cause in (
       search rules,
       (
         _,
         Answering-line g.S.Source g.K.Sink (empty_in_memory (L1 c.args.metric.dim c.args.metric.most)) c.args.reader.now c.args.output.now c.loop-line.reader c.loop-line.output (state_of c.loop-line.store) _ c.loop-line.invariant.1.1
             c.take_line.new.self c.put_all.new.sink (state_of c.respond.new.store) c.in-Ok-take_line.line c.as_slice.result.now consumed.0 not_end c.in-Ok-take_line.ensures.line consumed.1
-            c.in-Ok-take_line.ensures.open read.0 (c.as_slice.ensures ∙ c.in-Ok-respond.ensures.text) c.in-Ok-respond.ensures.next c.in-Ok-put_all.ensures.puts c.in-Ok-put_all.ensures.fault c.in-Ok-respond.ensures.valid,
+            c.in-Ok-take_line.ensures.open c.in-Ok-take_line.ensures.after_end (line_at _ _ _ _ not_end consumed.2) read.0 (c.as_slice.ensures ∙ c.in-Ok-respond.ensures.text) c.in-Ok-respond.ensures.next c.in-Ok-put_all.ensures.puts c.in-Ok-put_all.ensures.fault c.in-Ok-respond.ensures.valid,
       ),
     )
