@@ -18,7 +18,7 @@ use Rattle.spb_defs.specs.ObjectText.{object_of}
 use Rattle.spb_defs.specs.Grammar.{or_bad, ◌>>=◌, add_in, range_in, command_in, command_of}
 use Rattle.object_text.specs.Texts.{text_of}
 use Rattle.object_text.proofs.Texts.{number_within-decimal, decimal-number_within, IsFree, IsFree-decimal, IsFree-text_of, split_joined, read_text, text_read}
-use Rattle.cmd_grammar.specs.OneLine.{words_of, line_of}
+use Rattle.cmd_grammar.specs.OneLine.{words_of, command_text}
 use Rattle.cmd_grammar.specs.ReadsCommand.{IsProper}
 
 -- ---- three words that are read in turn
@@ -117,7 +117,7 @@ words_mean space (name ∷ first ∷ second ∷ third ∷ []) command fit e =
     ]
 words_mean space (a ∷ b ∷ c ∷ d ∷ f ∷ rest) command fit e = absurd (cc)
 
-pub read_line : (space : Space) (line : List ℕ) (command : Command) → IsTrue (fits space) → command_of space line ≡ Ok command → IsProper space command × (line ≡ line_of space command)
+pub read_line : (space : Space) (line : List ℕ) (command : Command) → IsTrue (fits space) → command_of space line ≡ Ok command → IsProper space command × (line ≡ command_text space command)
 unfolding command_of
 read_line space line command fit e =
     let means = words_mean space (slice_split (λ b. b == 32) line) command fit e in
@@ -152,7 +152,7 @@ range_again space c n object fit low small valid =
     read_three what.Number Range (number_within 3 (decimal c)) (number_within 4294967295 (decimal n)) (object_of space (text_of space object)) c n object
     (decimal-number_within 3 c (omega arith) (omega arith)) (decimal-number_within 4294967295 n (omega arith) (omega arith)) (text_read space (text_of space object) object fit valid refl)
 
-pub line_read : (space : Space) (line : List ℕ) (command : Command) → IsTrue (fits space) → IsProper space command → line ≡ line_of space command → command_of space line ≡ Ok command
+pub line_read : (space : Space) (line : List ℕ) (command : Command) → IsTrue (fits space) → IsProper space command → line ≡ command_text space command → command_of space line ≡ Ok command
 unfolding command_of
 line_read space line (Add c n object) fit p e =
     ap (command_of space) e ∙ ap (command_in space) (words_free space (codes "add") c n object fit add_free p.0 p.1 p.2) ∙ add_again space c n object fit p.0 p.1 p.2

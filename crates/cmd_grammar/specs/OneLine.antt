@@ -13,5 +13,5 @@ words_of space (Add c id object) = codes "add" ∷ decimal c ∷ decimal id ∷ 
 words_of space (Range c r object) = codes "range" ∷ decimal c ∷ decimal r ∷ text_of space object ∷ []
 
 -- the words with a space between them
-abbrev pub line_of : Space → Command → List ℕ
-line_of space command = join_with_byte 32 (words_of space command)
+abbrev pub command_text : Space → Command → List ℕ
+command_text space command = join_with_byte 32 (words_of space command)

@@ -125,3 +125,14 @@ fn words_of_the_program(rt: HostRuntime) -> Result<(), Fail> {
     }
     Ok(())
 }
+
+#[test]
+fn errors_in_words(rt: HostRuntime) -> Result<(), Fail> {
+    for (e, text) in [
+        (LineError::Bad(What::Id), "bad line"),
+        (LineError::Memory, "out of memory"),
+    ] {
+        assert!(rt; format!(in rt.alloc(); "{e}")?.as_str() == text);
+    }
+    Ok(())
+}

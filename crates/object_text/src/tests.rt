@@ -49,3 +49,14 @@ fn other_texts(rt: HostRuntime) {
         }
     }
 }
+
+#[test]
+fn errors_in_words(rt: HostRuntime) -> Result<(), Fail> {
+    for (e, text) in [
+        (TextError::BadObject, "bad object"),
+        (TextError::Memory, "out of memory"),
+    ] {
+        assert!(rt; format!(in rt.alloc(); "{e}")?.as_str() == text);
+    }
+    Ok(())
+}

@@ -24,7 +24,7 @@ pub record InLine {S : Type 0} {G : Ghosts S} (limit : ℕ) (old now : LineReade
   pub total : taken now ≤ 2 ^ 30
   pub counted : faults old ≤ faults now
   pub at_end : IsTrue (has_ended now) → (unread now ≡ []) × NothingLeft (rest now)
-  pub after_end : IsTrue (has_ended old) → IsTrue (has_ended now) × (front ≡ [])
+  pub after_end : IsTrue (has_ended old) → IsTrue (has_ended now) × (front ≡ []) × (now.source.now ≡ old.source.now)
 
 -- what was taken off for a line is that line, before the lines behind it
 lines_of-line : (limit : ℕ) (line : Line) (bytes before after : List ℕ) (ended : Bool) → IsLineAt limit line bytes (Some after) ended → before ≡ bytes ++ after → lines_of limit before ≡ line ∷ lines_of limit after

@@ -7,7 +7,7 @@ use Rattle.spb_edge.specs.Fault.{counted}
 
 -- the bytes taken, the most that it takes, the numbers of the calls that fail, how many calls were
 -- made, and how many of them failed
-pub record Kept : Type 0 where
+pub record SinkState : Type 0 where
   pub taken : List ℕ
   pub room : ℕ
   pub failing : List ℕ
@@ -15,7 +15,7 @@ pub record Kept : Type 0 where
   pub faults : ℕ
 
 -- a new sink: no call was made
-pub record IsKept (sink : Kept) (room : ℕ) (failing : List ℕ) : Type 0 where
+pub record IsNewSink (sink : SinkState) (room : ℕ) (failing : List ℕ) : Type 0 where
   pub nothing : sink.taken ≡ []
   pub room_is : sink.room ≡ room
   pub failing_is : sink.failing ≡ failing
@@ -23,20 +23,20 @@ pub record IsKept (sink : Kept) (room : ℕ) (failing : List ℕ) : Type 0 where
   pub no_fault : sink.faults ≡ 0
 
 -- how many bytes may be taken yet
-abbrev pub free : Kept → ℕ
+abbrev pub free : SinkState → ℕ
 free s = s.room - length s.taken
 
 -- whether the call fails that is made next
-abbrev pub fails_next : Kept → Bool
+abbrev pub fails_next : SinkState → Bool
 fails_next s = (free s == 0) || list_any (λ number. number == counted s.calls) s.failing
 
 -- what a call answers: a failure where its number is among those that fail or no room is left, else
 -- as many bytes as there is room for
-abbrev pub answer_of : Kept → ℕ → Put
+abbrev pub answer_of : SinkState → ℕ → Put
 answer_of s len = if fails_next s then Failed else Took (min len (free s))
 
 -- what stands after the answer: a call that fails is counted among the faults, and no other
-pub record Answers (old : Kept) (len : ℕ) (answer : Put) (new : Kept) : Type 0 where
+pub record Answers (old : SinkState) (len : ℕ) (answer : Put) (new : SinkState) : Type 0 where
   pub answer_is : answer ≡ answer_of old len
   pub one_call : new.calls ≡ counted old.calls
   pub same_room : new.room ≡ old.room

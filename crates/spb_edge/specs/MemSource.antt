@@ -7,7 +7,7 @@ use Rattle.spb_edge.specs.Fault.{counted}
 
 -- the bytes left, the most that a call gives, the numbers of the calls that fail, how many calls were
 -- made, and how many of them failed
-pub record Held : Type 0 where
+pub record SourceState : Type 0 where
   pub left : List ℕ
   pub piece : ℕ
   pub failing : List ℕ
@@ -15,7 +15,7 @@ pub record Held : Type 0 where
   pub faults : ℕ
 
 -- a new source: no call was made
-pub record IsHeld (source : Held) (bytes : List ℕ) (piece : ℕ) (failing : List ℕ) : Type 0 where
+pub record IsNewSource (source : SourceState) (bytes : List ℕ) (piece : ℕ) (failing : List ℕ) : Type 0 where
   pub left : source.left ≡ bytes
   pub piece_is : source.piece ≡ piece
   pub failing_is : source.failing ≡ failing
@@ -23,17 +23,17 @@ pub record IsHeld (source : Held) (bytes : List ℕ) (piece : ℕ) (failing : Li
   pub no_fault : source.faults ≡ 0
 
 -- whether the call fails that is made next
-abbrev pub fails_next : Held → Bool
+abbrev pub fails_next : SourceState → Bool
 fails_next s = list_any (λ number. number == counted s.calls) s.failing
 
 -- what a call answers: a failure where its number is among those that fail, else as many bytes as fit
 -- the buffer and the piece, else the end
-abbrev pub answer_of : Held → ℕ → Take
+abbrev pub answer_of : SourceState → ℕ → Take
 answer_of s room = if fails_next s then Failed
     else (if length s.left == 0 then End else Got (min (min (length s.left) s.piece) room))
 
 -- what stands after the answer: a call that fails is counted among the faults, and no other
-pub record Answers (old : Held) (room : ℕ) (answer : Take) (new : Held) : Type 0 where
+pub record Answers (old : SourceState) (room : ℕ) (answer : Take) (new : SourceState) : Type 0 where
   pub answer_is : answer ≡ answer_of old room
   pub one_call : new.calls ≡ counted old.calls
   pub same_piece : new.piece ≡ old.piece

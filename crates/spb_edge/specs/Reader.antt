@@ -15,11 +15,11 @@ use Rattle.spb_edge.specs.Fault.{Rose}
 use Rattle.spb_edge.specs.Lines.{HasNoLf, line_of, lines_of}
 
 module _ {S : Type 0} {G : Ghosts S} where
-  -- the bytes that were taken from the source and belong to no answered line yet
+  -- the bytes that were taken from the source and went into no line yet
   abbrev pub unread : LineReader S G → List ℕ
   unread reader = slice_range reader.buffer reader.start reader.end
 
-  -- the bytes that no answered line has, where the source tells what it has left
+  -- the bytes before the reader: the unread ones, and then what the source has left, where it tells
   abbrev pub rest : LineReader S G → Option (List ℕ)
   rest reader = before_told (unread reader) (G.left reader.source.now)
 
@@ -90,7 +90,7 @@ HasCause (Err edge.ReadFault) before now total unread = (before ≤ now) × Rose
 HasCause (Err edge.InputLimit) before now total unread = (before ≤ now) × (0 < unread) × (total ≡ 2 ^ 30 + unread)
 HasCause (Err edge.Memory) before now total unread = (before ≤ now) × (total ≤ 2 ^ 30)
 
--- behind the end there is no line, and the source isn't asked
+-- behind the end there is no line
 abbrev pub EndsAgain : Result Line EdgeError → Type 0
 EndsAgain (Ok (Text text)) = ⊥
 EndsAgain (Ok Long) = ⊥

@@ -26,6 +26,6 @@ PutsAll (Ok _) bytes old new = new ≡ told_then old bytes
 PutsAll (Err _) bytes old new = (n : ℕ) × (n < length bytes) × (new ≡ told_then old (take n bytes))
 
 -- the answer of a write that may fail: a failure is counted, and the count never falls
-abbrev pub CountsWriteFault : {E : Type 0} → Result Unit E → ℕ → ℕ → Type 0
-CountsWriteFault (Ok _) before now = before ≤ now
-CountsWriteFault (Err _) before now = (before ≤ now) × Rose before now
+abbrev pub CountsPutFault : {E : Type 0} → Result Unit E → ℕ → ℕ → Type 0
+CountsPutFault (Ok _) before now = before ≤ now
+CountsPutFault (Err _) before now = (before ≤ now) × Rose before now

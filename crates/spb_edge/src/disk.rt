@@ -2,7 +2,7 @@ ghost use Rattle.std.specs.Prelude.{◌≡◌, ℕ, ◌+◌, ◌≤◌, Bool, Li
 
 use thiserror::Error;
 
-/// Why a call of a [`Disk`] did nothing for sure.
+/// Why a call of a [`Disk`] didn't succeed.
 #[derive(Clone, Copy, Debug, PartialEq, Eq, Drop, Error)]
 pub enum DiskError {
     /// The disk failed, and counted it.
@@ -65,7 +65,7 @@ pub trait Disk {
         ensures reads { IsTrue (told self.old) → reads self.new ≡ reads self.old }
         ensures fault { CountsWriteFault result (size_of self.old) (at + length bytes.now) (faults self.old) (faults self.new) };
 
-    /// Makes what was written last.
+    /// Asks that what was written be kept. The image stays as it is.
     fn sync(&mut self) -> Result<(), DiskError>
         ensures told { told self.new ≡ told self.old }
         ensures length { size_of self.new ≡ size_of self.old }

@@ -8,6 +8,7 @@ use crate::{Source, Take};
 /// contracts.
 #[derive(Clone, Copy, Debug, PartialEq, Eq)]
 pub struct EndlessSource {
+    /// The byte.
     pub byte: u8,
 }
 

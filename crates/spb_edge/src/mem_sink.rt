@@ -1,5 +1,5 @@
 ghost use Rattle.std.specs.Prelude.{◌≡◌, ◌<◌, ◌≤◌, Some, length, IfOk, vec_len, vec_capacity};
-ghost use Rattle.spb_edge.specs.MemSink.{Kept, IsKept, Answers};
+ghost use Rattle.spb_edge.specs.MemSink.{SinkState, IsNewSink, Answers};
 ghost use Rattle.spb_edge.specs.Sink.{Takes, IsWithin, CountsFault};
 
 use crate::{Memory, Put, Sink};
@@ -18,9 +18,9 @@ pub struct MemSink {
 
 impl Model for MemSink {
     ghost use Rattle.std.specs.Prelude.{◌≤◌, vec_len, vec_capacity};
-    ghost use Rattle.spb_edge.specs.MemSink.{Kept};
+    ghost use Rattle.spb_edge.specs.MemSink.{SinkState};
 
-    ghost Value = { Kept };
+    ghost Value = { SinkState };
 
     ghost view = { λ s. record {
       taken = s.taken.items;
@@ -37,7 +37,7 @@ impl MemSink {
     /// An empty sink with room for `room` bytes, whose memory it takes now. Calls are numbered from 1,
     /// and those whose number is in `failing` fail; any other fails exactly where no room is left.
     pub fn new(alloc: Global, room: usize, failing: &[u64]) -> Result<MemSink, Memory>
-        ensures { IfOk result (λ sink. IsKept sink room failing.now) }
+        ensures { IfOk result (λ sink. IsNewSink sink room failing.now) }
     {
         Ok(MemSink {
             taken: Vec::with_capacity(alloc, room)?,

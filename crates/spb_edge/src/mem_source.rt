@@ -1,5 +1,5 @@
 ghost use Rattle.std.specs.Prelude.{◌+◌, ◌<◌, ◌≤◌, Some, length, IfOk};
-ghost use Rattle.spb_edge.specs.MemSource.{Held, IsHeld, Answers};
+ghost use Rattle.spb_edge.specs.MemSource.{SourceState, IsNewSource, Answers};
 ghost use Rattle.spb_edge.specs.Source.{Gives, IsWithin, CountsFault};
 
 use crate::{Bytes, Memory, Source, Take};
@@ -19,9 +19,9 @@ pub struct MemSource {
 
 impl Model for MemSource {
     ghost use Rattle.std.specs.Prelude.{drop, length, ◌≤◌, ◌<◌};
-    ghost use Rattle.spb_edge.specs.MemSource.{Held};
+    ghost use Rattle.spb_edge.specs.MemSource.{SourceState};
 
-    ghost Value = { Held };
+    ghost Value = { SourceState };
 
     ghost view = { λ s. record {
       left = drop s.at s.bytes;
@@ -44,7 +44,7 @@ impl MemSource {
         failing: &[u64],
     ) -> Result<MemSource, Memory>
         requires { 0 < piece }
-        ensures { IfOk result (λ source. IsHeld source bytes.now piece failing.now) }
+        ensures { IfOk result (λ source. IsNewSource source bytes.now piece failing.now) }
     {
         Ok(MemSource {
             bytes: Bytes::of(alloc, bytes)?,

@@ -2,7 +2,7 @@ use std::alloc::{AllocError, AllocFailed};
 use thiserror::Error;
 
 /// Memory ran out. No clause ties it to a refused growth: it is the one answer that may come freely
-/// from each call whose error names it.
+/// from a call whose error names it.
 #[derive(Clone, Copy, Debug, PartialEq, Eq, Drop, Error)]
 #[error("out of memory")]
 pub struct Memory;

@@ -142,7 +142,7 @@ impl<'a, S: Source> LineReader<'a, S> {
     /// The next line, however the source's bytes come in pieces: its text where it is within `limit`
     /// bytes, [`Line::Long`] where it is over it, and [`Line::End`] where nothing is left.
     ///
-    /// No earlier call of this reader may have answered `InputLimit`. `ReadFault` comes only where the
+    /// No earlier call of this reader may have answered an error. `ReadFault` comes only where the
     /// source counted a fault in this call, and `InputLimit` exactly where [`INPUT_LIMIT`] bytes were
     /// taken and the next take gave more. Where one of these comes, each line that an LF ended among
     /// the bytes taken within the limit was answered before. After an error the beginning of the line in
@@ -160,6 +160,7 @@ impl<'a, S: Source> LineReader<'a, S> {
             (length (unread self.new)) }
         // Behind the end of the stream the source isn't asked again.
         ensures after_end { IsTrue (has_ended self.old) → EndsAgain result }
+        ensures unasked { IsTrue (has_ended self.old) → self.new.source.now ≡ self.old.source.now }
         // A caller's loop over the lines ends, also where the source tells nothing.
         ensures progress { LowersBudget result (budget self.old) (budget self.new) }
         ensures name { self.new.source.ghost_name ≡ self.old.source.ghost_name }
@@ -206,6 +207,7 @@ impl<'a, S: Source> LineReader<'a, S> {
         requires open { IsOpen self.old }
         ensures refills { Refills result self.old self.new }
         ensures after_end { IsTrue (has_ended self.old) → result ≡ Ok false }
+        ensures unasked { IsTrue (has_ended self.old) → self.new.source.now ≡ self.old.source.now }
         ensures name { self.new.source.ghost_name ≡ self.old.source.ghost_name }
     {
         if self.ended {

@@ -14,7 +14,7 @@ use Rattle.spb_edge.specs.declared.sink.Sink as sink
 use Rattle.spb_edge.specs.Told.{before_told, before_told-nil, told_then, told_then-append, told_then-nil}
 use Rattle.spb_edge.specs.Lines.{HasNoLf, lines_of, ended_lines}
 use Rattle.spb_edge.proofs.LineLaws.{ended_lines-ended, ended_lines-none}
-use Rattle.spb_edge.specs.Reader.{unread, rest, taken, faults, has_ended, IsOpen, EndsAgain, TakesOff, IsLineAt, Spells, IsNextLine}
+use Rattle.spb_edge.specs.Reader.{unread, rest, taken, faults, has_ended, IsOpen, EndsAgain, TakesOff, IsLineAt, Spells, IsNextLine, NothingLeft}
 use Rattle.spb_edge.specs.Reader as reads
 use Rattle.spb_defs.specs.declared.TheConstants.{LINE_LIMIT}
 use Rattle.spb_defs.specs.State.{State}
@@ -24,12 +24,14 @@ use Rattle.spb_defs.specs.Play.{play_lines, play, play_ended}
 use Rattle.spb_top.specs.Memory.{HasValidObjects}
 use Rattle.spb_edge.specs.Fault.{Rose}
 use Rattle.spb_top.specs.declared.status.Status.{Status}
-use Rattle.spb_top.specs.declared.status.Status.TheVariants.{Done, Usage, NoMemory, ReadFault, WriteFault, InputLimit}
-use Rattle.spb_top.specs.Run.{WritesFront, Writes, EndsInput, HasCause, stopped_by}
+use Rattle.spb_top.specs.declared.status.Status.TheVariants.{Done}
+use Rattle.spb_top.specs.Run.{WritesFront, Writes, LeavesInput, HasCause, stopped_by}
 
 -- what was written and the replies to what is left are the replies to the script
 pub record Completes (script : List ℕ) (first : State) (written left : List ℕ) (now : State) : Type 0 where
   pub text : written ++ play_lines now (lines_of LINE_LIMIT left) ≡ play first script
+  pub took : List ℕ
+  pub split : script ≡ took ++ left
 
 -- the bytes of whole lines, which went: whatever follows them, the replies to the lines that an LF ends
 -- begin with what was written
@@ -56,7 +58,7 @@ module _ {S K : Type 0} (G : source.Ghosts S) (H : sink.Ghosts K) where
   pub Answering-start : (first : State) (reader : LineReader S G) (output : K) → taken reader ≡ 0 → unread reader ≡ [] → has_ended reader ≡ false → HasValidObjects first.space first.members → Answering first reader output reader output first []
   Answering-start first reader output none empty running valid = record {
     wrote = sym (told_then-nil (H.taken output));
-    follows = λ script told. (script, told, record { text = refl }, omega (arith, ap length empty, none), inr (record { bytes = []; split = refl; whole = λ more. refl }));
+    follows = λ script told. (script, told, record { text = refl; took = []; split = refl }, omega (arith, ap length empty, none), inr (record { bytes = []; split = refl; whole = λ more. refl }));
     is_open = record { total = omega arith; ended = λ ended. absurd (false≢true (sym running ∙ ended)) };
     source = omega arith;
     sink_faults = omega arith;
@@ -82,6 +84,11 @@ next_of End left (Some left') not_end at = absurd (not_end refl)
 taken_off : (left bytes : List ℕ) (new : Option (List ℕ)) → Some left ≡ before_told bytes new → (left' : List ℕ) × (new ≡ Some left') × (left ≡ bytes ++ left')
 taken_off left bytes None at = absurd (some_is_not_none at)
 taken_off left bytes (Some left') at = (left', refl, some_is at)
+
+-- what is behind the unread bytes, where what is left is told
+behind_told : (front left : List ℕ) (behind : Option (List ℕ)) → before_told front behind ≡ Some left → (back : List ℕ) × (behind ≡ Some back) × (left ≡ front ++ back)
+behind_told front left None at = absurd (some_is_not_none (sym at))
+behind_told front left (Some back) at = (back, refl, sym (some_is at))
 
 -- what is unread is part of what is left
 unread_in : (front left : List ℕ) (behind : Option (List ℕ)) → before_told front behind ≡ Some left → length front ≤ length left
@@ -224,7 +231,11 @@ module _ {S K : Type 0} (G : source.Ghosts S) (H : sink.Ghosts K) where
             ∙ ap (λ l. text ++ play_lines state' (lines_of LINE_LIMIT l)) same in (
               count.0,
               count.1,
-              record { text = append_assoc written text (play_lines state' (lines_of LINE_LIMIT count.0)) ∙ ap (λ t. written ++ t) (sym more) ∙ follows.2.text },
+              record {
+                text = append_assoc written text (play_lines state' (lines_of LINE_LIMIT count.0)) ∙ ap (λ t. written ++ t) (sym more) ∙ follows.2.text;
+                took = follows.2.took ++ bytes;
+                split = follows.2.split ∙ ap (λ xs. follows.2.took ++ xs) count.2 ∙ sym (append_assoc follows.2.took bytes count.0);
+              },
               count.3,
               went_line script first written follows.0 count.0 state state' line text bytes (rest new) (has_ended now) (has_ended new) follows.4 (λ end. running line not_end (after end)) how count.2 replies goes,
             );
@@ -293,18 +304,48 @@ module _ {S K : Type 0} (G : source.Ghosts S) (H : sink.Ghosts K) where
       subst (λ s. HasCause s (record { source_before = faults reader; source_now = faults new; sink_before = H.faults output; sink_now = H.faults sink }) (rest reader)) (sym is)
       (stopped_cause e (faults reader) (faults now) (faults new) (H.faults output) (H.faults sink) (taken new) (unread new) (rest reader) so.source so.sink_faults here count)
 
--- ---- what the reader has left, and what the input has
+-- ---- what is left of the input
 
 no_front : (front back : List ℕ) → front ++ back ≡ [] → back ≡ []
 no_front [] back none = none
 no_front (x ∷ front) back none = absurd (omega (arith, ap length none))
 
--- where nothing is left before the reader, nothing is left of its source
-pub EndsInput-left : (status : Status) (front : List ℕ) (left : Option (List ℕ)) → EndsInput status (before_told front left) → EndsInput status left
-EndsInput-left Done front None ends = tt
-EndsInput-left Done front (Some bytes) ends = no_front front bytes ends
-EndsInput-left Usage front left ends = tt
-EndsInput-left NoMemory front left ends = tt
-EndsInput-left ReadFault front left ends = tt
-EndsInput-left WriteFault front left ends = tt
-EndsInput-left InputLimit front left ends = tt
+pub stopped_is_not_done : (e : EdgeError) → stopped_by e ≡ Done → ⊥
+stopped_is_not_done edge.ReadFault e = cc
+stopped_is_not_done edge.InputLimit e = cc
+stopped_is_not_done edge.Memory e = cc
+
+module _ {S K : Type 0} (G : source.Ghosts S) (H : sink.Ghosts K) where
+  -- a run that isn't done has taken a front of the input
+  pub LeavesInput-front : (first : State) (reader : LineReader S G) (output : K) (now : LineReader S G) (sink : K) (state : State) (written : List ℕ) → Answering G H first reader output now sink state written
+      → (new : LineReader S G) (bytes : List ℕ) → TakesOff now new bytes → (status : Status) → (status ≡ Done → ⊥)
+      → (script : List ℕ) → rest reader ≡ Some script → LeavesInput status script (G.left new.source.now)
+  LeavesInput-front first reader output now sink state written so new bytes off status not_done script told =
+      let follows = so.follows script told in
+      let count = counts_off script follows.0 bytes now new follows.1 follows.3 off in
+      let behind = behind_told (unread new) count.0 (G.left new.source.now) count.1 in
+      let before = follows.2.took ++ bytes in
+      let cut : script ≡ (before ++ unread new) ++ behind.0 =
+      follows.2.split ∙ ap (λ xs. follows.2.took ++ xs) count.2 ∙ sym (append_assoc follows.2.took bytes count.0)
+      ∙ ap (λ xs. before ++ xs) behind.2 ∙ sym (append_assoc before (unread new) behind.0) in
+      record {
+        took = before ++ unread new;
+        front = ap Some cut ∙ ap (before_told (before ++ unread new)) (sym behind.1);
+        whole = λ done. absurd (not_done done);
+      }
+
+  -- a run that is done has taken all of it
+  pub LeavesInput-done : (first : State) (reader : LineReader S G) (output : K) (now : LineReader S G) (sink : K) (state : State) (written : List ℕ) → Answering G H first reader output now sink state written
+      → (new : LineReader S G) (bytes : List ℕ) → TakesOff now new bytes → NothingLeft (rest new)
+      → (script : List ℕ) → rest reader ≡ Some script → LeavesInput Done script (G.left new.source.now)
+  LeavesInput-done first reader output now sink state written so new bytes off nothing script told =
+      let follows = so.follows script told in
+      let count = counts_off script follows.0 bytes now new follows.1 follows.3 off in
+      let behind = behind_told (unread new) count.0 (G.left new.source.now) count.1 in
+      let none : count.0 ≡ [] = subst NothingLeft count.1 nothing in
+      let left : G.left new.source.now ≡ Some [] = behind.1 ∙ ap Some (no_front (unread new) behind.0 (sym behind.2 ∙ none)) in
+      record {
+        took = script;
+        front = sym (ap (before_told script) left ∙ ap Some (append-nil script));
+        whole = λ done. left;
+      }

@@ -30,14 +30,12 @@ Writes WriteFault first script left old new = WritesFront old new (play first sc
 Writes InputLimit first script left old new =
     WritesFront old new (play first script) × (new ≡ told_then old (play_ended first (take (2 ^ 30) script)))
 
--- on Done nothing is left of the input, where that is told
-abbrev pub EndsInput : Status → Option (List ℕ) → Type 0
-EndsInput Done left = IfSome left (λ bytes. bytes ≡ [])
-EndsInput Usage left = Unit {0}
-EndsInput NoMemory left = Unit {0}
-EndsInput ReadFault left = Unit {0}
-EndsInput WriteFault left = Unit {0}
-EndsInput InputLimit left = Unit {0}
+-- what is left of an input that tells what it has: a front of it was taken, on Done all of it, and it goes on
+-- telling
+pub record LeavesInput (status : Status) (script : List ℕ) (left : Option (List ℕ)) : Type 0 where
+  pub took : List ℕ
+  pub front : Some script ≡ before_told took left
+  pub whole : status ≡ Done → left ≡ Some []
 
 -- the faults of the source and of the sink, before the run and now
 pub record Faults : Type 0 where

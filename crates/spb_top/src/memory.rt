@@ -44,8 +44,8 @@ impl Store {
         }
     }
 
-    /// What the line is answered, and the store after it. A line that is no command, or that asks for
-    /// nothing that it can have, leaves the store as it was. Where memory runs out so does an addition.
+    /// What the line is answered, and the store after it. A line that is no command or is refused leaves
+    /// the store as it was, and so does every line where memory runs out.
     #[tactic(auto, unfolding(spb_defs::specs::Step::reply, spb_defs::specs::Step::next))]
     pub(crate) fn turn(&mut self, alloc: Global, line: &Line) -> Result<Reply, Memory>
         requires valid { IsSound (state_of self.old) }
@@ -106,8 +106,8 @@ impl Store {
         })
     }
 
-    /// Adds the object, if the collection doesn't have the id and there is room. It looks the key up
-    /// in logarithmic time.
+    /// Adds the object, if the collection doesn't have the id and there is room. It takes time in the
+    /// logarithm of the number of objects.
     fn add(&mut self, c: u8, id: u32, object: Bytes) -> Result<Reply, Memory>
         requires valid { IsSound (state_of self.old) }
         requires object { IsValid (state_of self.old).space object }

@@ -63,12 +63,15 @@ fn plain_line(
     }
 }
 
-/// Adds the member unless its key is there.
+/// Adds the member unless its key is there or the store is full.
 fn plain_add(member: Member, members: &mut Vec<Member>, text: &mut Bytes) -> Result<(), Memory> {
     for other in members.iter() {
         if other.collection == member.collection && other.id == member.id {
             return text.append(b"exists\n");
         }
+    }
+    if members.len() >= 65_536 {
+        return text.append(b"full\n");
     }
     members.push(member)?;
     text.append(b"ok\n")

@@ -29,19 +29,29 @@ fn play_on(
     Ok(run(alloc, &words, &mut input, output, &mut disk))
 }
 
-/// The scripts, and what each is answered.
-const ROWS: [(&str, &str); 9] = [
-    (
-        "add 0 1 0,0\nrange 0 0 0,0\n",
-        "ok\nrange 1 evals 1 sure 0: 1\n",
-    ),
-    ("", ""),
-    ("range 0 0 0,0", "range 0 evals 0 sure 0:\n"),
-    ("count 0", "bad command\n"),
-    (
-        "add 0 1 0,0\nadd 0 1 5,5\nget 0 1\nrange 0 5 3,4\n",
-        "ok\nexists\nbad command\nrange 0 evals 1 sure 0:\n",
-    ),
+/// A script, and what it is answered.
+type Row = (&'static str, &'static str);
+
+const ONE_OBJECT: Row = (
+    "add 0 1 0,0\nrange 0 0 0,0\n",
+    "ok\nrange 1 evals 1 sure 0: 1\n",
+);
+
+const EMPTY: Row = ("", "");
+
+const NO_LAST_LF: Row = ("range 0 0 0,0", "range 0 evals 0 sure 0:\n");
+
+const FOUR_LINES: Row = (
+    "add 0 1 0,0\nadd 0 1 5,5\nget 0 1\nrange 0 5 3,4\n",
+    "ok\nexists\nbad command\nrange 0 evals 1 sure 0:\n",
+);
+
+const ROWS: [Row; 9] = [
+    ONE_OBJECT,
+    EMPTY,
+    NO_LAST_LF,
+    FOUR_LINES,
+    ("count 0\n", "bad command\n"),
     (
         "add 3 7 0,1\nadd 3 5 9,9\nadd 2 5 0,0\nadd 3 4294967295 1,0\nrange 3 1 0,0\n",
         "ok\nok\nok\nok\nrange 2 evals 3 sure 0: 7 4294967295\n",
@@ -60,13 +70,41 @@ const ROWS: [(&str, &str); 9] = [
     ),
 ];
 
+/// Whether the script is answered so to its end.
+fn is_answered(alloc: Global, (script, text): Row) -> Result<bool, Fail> {
+    let mut output = MemSink::new(alloc, 4096, &[])?;
+    let status = play_on(alloc, script.as_bytes(), 64, &[], &mut output)?;
+    Ok(status == Status::Done && output.taken() == text.as_bytes())
+}
+
+#[test]
+fn is_not_always_out_of_memory(rt: HostRuntime) -> Result<(), Fail> {
+    assert!(rt; is_answered(rt.alloc(), ONE_OBJECT)?);
+    Ok(())
+}
+
+#[test]
+fn the_empty_input(rt: HostRuntime) -> Result<(), Fail> {
+    assert!(rt; is_answered(rt.alloc(), EMPTY)?);
+    Ok(())
+}
+
+#[test]
+fn a_last_line_without_lf(rt: HostRuntime) -> Result<(), Fail> {
+    assert!(rt; is_answered(rt.alloc(), NO_LAST_LF)?);
+    Ok(())
+}
+
+#[test]
+fn four_lines(rt: HostRuntime) -> Result<(), Fail> {
+    assert!(rt; is_answered(rt.alloc(), FOUR_LINES)?);
+    Ok(())
+}
+
 #[test]
 fn answers_the_worked_rows(rt: HostRuntime) -> Result<(), Fail> {
     for (script, text) in ROWS {
-        let mut output = MemSink::new(rt.alloc(), 4096, &[])?;
-        let status = play_on(rt.alloc(), script.as_bytes(), 64, &[], &mut output)?;
-        assert!(rt; status == Status::Done, "{script}");
-        assert!(rt; output.taken() == text.as_bytes(), "{script}");
+        assert!(rt; is_answered(rt.alloc(), (script, text))?, "{script}");
     }
     Ok(())
 }
@@ -104,7 +142,25 @@ fn a_line_at_the_limit_and_one_past_it(rt: HostRuntime) -> Result<(), Fail> {
     let mut output = MemSink::new(rt.alloc(), 4096, &[])?;
     let status = play_on(rt.alloc(), script.as_slice(), 1000, &[], &mut output)?;
     assert_eq!(rt; status, Status::Done);
-    assert!(rt; output.taken() == b"bad command\nlong\nrange 0 evals 0 sure 0:\n".as_slice());
+    let text = b"bad command\nlong\nrange 0 evals 0 sure 0:\n";
+    assert!(rt; output.taken() == text.as_slice());
+    let mut plain = Bytes::of(rt.alloc(), &[])?;
+    plain_play(rt.alloc(), script.as_slice(), &mut plain)?;
+    assert!(rt; plain.as_slice() == text.as_slice());
+    Ok(())
+}
+
+#[test]
+fn one_object_more_than_there_is_room_for(rt: HostRuntime) -> Result<(), Fail> {
+    let mut script = Vec::new(rt.alloc());
+    for id in 0..65_537 {
+        script.extend_from_slice(format!(in rt.alloc(); "add 3 {id} 0,0\n")?.as_bytes())?;
+    }
+    let mut output = MemSink::new(rt.alloc(), 1 << 20, &[])?;
+    let status = play_on(rt.alloc(), script.as_slice(), 8192, &[], &mut output)?;
+    assert_eq!(rt; status, Status::Done);
+    assert_eq!(rt; output.taken().len(), 65_536 * 3 + 5);
+    assert!(rt; output.taken().ends_with(b"ok\nfull\n"));
     Ok(())
 }
 

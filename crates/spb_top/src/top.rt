@@ -8,7 +8,7 @@ ghost use Rattle.spb_defs.specs.Step.{reply, next};
 ghost use Rattle.spb_defs.specs.ReplyText.{reply_text};
 ghost use Rattle.spb_defs.specs.Words.{space_of};
 ghost use Rattle.spb_top.specs.Memory.{state_of, IsSound};
-ghost use Rattle.spb_top.specs.Run.{Asks, Writes, EndsInput, HasCause, Completes, stopped_by};
+ghost use Rattle.spb_top.specs.Run.{Asks, Writes, LeavesInput, HasCause, Completes, stopped_by};
 
 use crate::memory::Store;
 use crate::status::Status;
@@ -39,7 +39,7 @@ fn answer_input<S: Source, K: Sink>(
 ) -> Status
     ensures text { (script : List ℕ) → S.left input.old ≡ Some script
         → Writes result (empty_in_memory (Space.L1 metric.dim metric.most)) script (S.left input.new) (K.taken output.old) (K.taken output.new) }
-    ensures input { EndsInput result (S.left input.new) }
+    ensures input { (script : List ℕ) → S.left input.old ≡ Some script → LeavesInput result script (S.left input.new) }
     ensures cause { HasCause result
         (record {
           source_before = S.faults input.old;
@@ -68,7 +68,7 @@ fn answer_lines<S: Source, K: Sink>(
     requires not_ended { has_ended reader.old ≡ false }
     ensures text { (script : List ℕ) → rest reader.old ≡ Some script
         → Writes result (empty_in_memory (Space.L1 metric.dim metric.most)) script (S.left reader.new.source.now) (K.taken output.old) (K.taken output.new) }
-    ensures input { EndsInput result (rest reader.new) }
+    ensures input { (script : List ℕ) → rest reader.old ≡ Some script → LeavesInput result script (S.left reader.new.source.now) }
     ensures cause { HasCause result
         (record {
           source_before = faults reader.old;
@@ -116,7 +116,7 @@ fn stopped(e: EdgeError) -> Status
 ///
 /// The words are those after the program's name. `mem l1 DIM MOST` answers a script in memory: it
 /// reads the lines of `input` to its end, from an empty store of vectors of `DIM` components from 0 to
-/// `MOST`, and puts the reply to each into `output` before it reads the next. All other words are
+/// `MOST`, and puts the reply to each into `output` before it goes on to the next. All other words are
 /// [`Status::Usage`]. No call is made on the disk.
 ///
 /// Each line is passed over a few times. An addition takes time in the logarithm of the number of
@@ -138,7 +138,7 @@ pub fn run<S: Source, K: Sink, D: Disk>(
         → (script : List ℕ) → S.left input.old ≡ Some script
         → Writes result (empty_in_memory space) script (S.left input.new) (K.taken output.old) (K.taken output.new) }
     ensures usage { result ≡ Status.Usage → (input.new ≡ input.old) × (output.new ≡ output.old) }
-    ensures input { EndsInput result (S.left input.new) }
+    ensures input { (script : List ℕ) → S.left input.old ≡ Some script → LeavesInput result script (S.left input.new) }
 
     // Each status has its cause, and where none of the causes is there the work is done.
     ensures cause { HasCause result

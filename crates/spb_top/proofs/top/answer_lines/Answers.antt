@@ -1,10 +1,13 @@
-use Rattle.std.proofs.Common.{◌≡◌, sym, ◌∙◌, arith, rules}
+use Rattle.std.proofs.Common.{◌≡◌, Ok, subst, sym, ◌∙◌, arith, rules}
+use Rattle.spb_edge.specs.Reader.{rest, has_ended, Spells}
+use Rattle.spb_defs.specs.declared.TheConstants.{LINE_LIMIT}
+use Rattle.spb_top.specs.declared.status.Status.TheVariants.{NoMemory, WriteFault}
 use Rattle.std.proofs.lemmas.Bool.{false≢true}
 use Rattle.metrics_builtin.specs.declared.Space.TheVariants.{L1}
 use Rattle.spb_edge.specs.declared.reader.Line.TheVariants.{End}
 use Rattle.spb_defs.specs.State.{empty_in_memory}
 use Rattle.spb_top.specs.Memory.{state_of}
-use Rattle.spb_top.proofs.Running.{Answering-line, front_so_far, front_of_reply, line_at, text_stopped, cause_stopped, Rose-later}
+use Rattle.spb_top.proofs.Running.{Answering-line, front_so_far, front_of_reply, line_at, text_stopped, cause_stopped, Rose-later, LeavesInput-front, LeavesInput-done, stopped_is_not_done}
 use Rattle.spb_top.proofs.top.answer_lines.Goals as goal
 
 pub returns-in-Err-clause-text : goal.returns-in-Err-clause-text
@@ -66,3 +69,31 @@ loop-line-preserved g c =
             c.in-Ok-take_line.ensures.open c.in-Ok-take_line.ensures.after_end (line_at _ _ _ _ not_end consumed.2) read.0 (c.as_slice.ensures ∙ c.in-Ok-respond.ensures.text) c.in-Ok-respond.ensures.next c.in-Ok-put_all.ensures.puts c.in-Ok-put_all.ensures.fault c.in-Ok-respond.ensures.valid,
       ),
     )
+
+-- ---- what is left of the input
+
+pub returns-in-Err-clause-input : goal.returns-in-Err-clause-input
+returns-in-Err-clause-input g c =
+    let consumed = c.take_line.ensures.consumed in
+    LeavesInput-front g.S.Source g.K.Sink (empty_in_memory (L1 c.args.metric.dim c.args.metric.most)) c.args.reader.now c.args.output.now c.loop-line.reader c.loop-line.output (state_of c.loop-line.store) _ c.loop-line.invariant.1.1
+    c.take_line.new.self consumed.0 consumed.1 c.stopped.result (λ done. stopped_is_not_done c.in-Err.e (sym c.stopped.ensures ∙ done))
+
+pub returns-then-is_end-clause-input : goal.returns-then-is_end-clause-input
+returns-then-is_end-clause-input g c =
+    let consumed = c.in-Ok-take_line.ensures.consumed in
+    let end = c.is_end.ensures.0 c.if-is_end.true in
+    let spells = subst (λ line. Spells LINE_LIMIT (Ok line) consumed.0 (rest c.take_line.new.self) (has_ended c.take_line.new.self)) end consumed.2 in
+    LeavesInput-done g.S.Source g.K.Sink (empty_in_memory (L1 c.args.metric.dim c.args.metric.most)) c.args.reader.now c.args.output.now c.loop-line.reader c.loop-line.output (state_of c.loop-line.store) _ c.loop-line.invariant.1.1
+    c.take_line.new.self consumed.0 consumed.1 spells.1
+
+pub returns-in_default-respond-clause-input : goal.returns-in_default-respond-clause-input
+returns-in_default-respond-clause-input g c =
+    let consumed = c.in-Ok-take_line.ensures.consumed in
+    LeavesInput-front g.S.Source g.K.Sink (empty_in_memory (L1 c.args.metric.dim c.args.metric.most)) c.args.reader.now c.args.output.now c.loop-line.reader c.loop-line.output (state_of c.loop-line.store) _ c.loop-line.invariant.1.1
+    c.take_line.new.self consumed.0 consumed.1 NoMemory (λ e. cc)
+
+pub returns-in_default-put_all-clause-input : goal.returns-in_default-put_all-clause-input
+returns-in_default-put_all-clause-input g c =
+    let consumed = c.in-Ok-take_line.ensures.consumed in
+    LeavesInput-front g.S.Source g.K.Sink (empty_in_memory (L1 c.args.metric.dim c.args.metric.most)) c.args.reader.now c.args.output.now c.loop-line.reader c.loop-line.output (state_of c.loop-line.store) _ c.loop-line.invariant.1.1
+    c.take_line.new.self consumed.0 consumed.1 WriteFault (λ e. cc)
