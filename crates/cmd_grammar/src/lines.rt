@@ -79,7 +79,7 @@ fn add(
     ensures proper { IfOk result (λ command. IsProper space.now command) }
 {
     let c = collection_or(collection)?;
-    let id = number_or(What::Id, id, 4294967295)?;
+    let id = number_or(What::Id, id, u32::MAX as u64)?;
     let object = object_or(alloc, space, object)?;
     Ok(Command::Add {
         c,
@@ -102,7 +102,7 @@ fn range(
     ensures proper { IfOk result (λ command. IsProper space.now command) }
 {
     let c = collection_or(collection)?;
-    let r = number_or(What::Number, radius, 4294967295)?;
+    let r = number_or(What::Number, radius, u32::MAX as u64)?;
     let object = object_or(alloc, space, query)?;
     Ok(Command::Range {
         c,

@@ -46,8 +46,8 @@ fn space(kind: &[u8], first: &[u8], second: &[u8]) -> Option<Space>
     if kind != b"l1".as_slice() {
         return None;
     }
-    let dim = number(first, 4294967295)? as u32;
-    let most = number(second, 4294967295)? as u32;
+    let dim = number(first, u32::MAX as u64)? as u32;
+    let most = number(second, u32::MAX as u64)? as u32;
     let space = Space::L1 { dim, most };
     if space.fits() { Some(space) } else { None }
 }

@@ -25,7 +25,7 @@ impl Space {
     {
         match *self {
             Space::L1 { dim, most } => {
-                1 <= dim && dim <= 30 && 1 <= most && dim as u64 * most as u64 <= 4294967295
+                1 <= dim && dim <= 30 && 1 <= most && dim as u64 * most as u64 <= u32::MAX as u64
             }
         }
     }

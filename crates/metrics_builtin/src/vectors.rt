@@ -44,7 +44,7 @@ impl Metric for L1 {
     }
 }
 
-// whether the object has `dim` components, none past `most`
+/// Whether the object has `dim` components, none past `most`.
 fn is_vector(dim: u32, most: u32, object: &[u8]) -> bool
     ensures { IsTrue result ↔ IsVector dim most object.now }
 {
@@ -59,7 +59,7 @@ fn is_vector(dim: u32, most: u32, object: &[u8]) -> bool
     true
 }
 
-// the distance of two objects of `dim` components
+/// The distance of two objects of `dim` components.
 fn sum_of_differences(dim: u32, a: &[u8], b: &[u8]) -> u32
     requires first { length a.now ≡ 4 * dim }
     requires second { length b.now ≡ 4 * dim }
@@ -73,7 +73,7 @@ fn sum_of_differences(dim: u32, a: &[u8], b: &[u8]) -> u32
     total
 }
 
-// component i of the object
+/// Component `i` of the object.
 fn component(object: &[u8], i: usize) -> u32
     requires { 4 * i + 4 ≤ length object.now }
     ensures { result ≡ slice_index (components object.now) i }

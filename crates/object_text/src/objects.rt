@@ -14,6 +14,9 @@ use spb_edge::{Bytes, Memory};
 use std::alloc::Global;
 use thiserror::Error;
 
+/// The most bytes of a vector: 30 components of 4 bytes each.
+const VECTOR_BYTES: usize = 120;
+
 /// Why a text is not read as an object.
 #[derive(Clone, Copy, Debug, PartialEq, Eq, Drop, Error)]
 pub enum TextError {
@@ -60,7 +63,7 @@ pub fn read_object(alloc: Global, space: &Space, text: &[u8]) -> Result<Bytes, T
 }
 
 /// The bytes of the vector whose text it is.
-fn vector(dim: u32, most: u32, text: &[u8]) -> Option<ArrayVec<u8, 120>>
+fn vector(dim: u32, most: u32, text: &[u8]) -> Option<ArrayVec<u8, VECTOR_BYTES>>
     requires some { 1 ≤ dim }
     requires few { dim ≤ 30 }
     ensures { MatchOption result
@@ -87,8 +90,8 @@ fn component(word: &[u8], most: u32) -> Option<u32>
 }
 
 /// Puts the number's four bytes at the end.
-fn push_component(object: &mut ArrayVec<u8, 120>, n: u32)
-    requires { length object.old.items + 4 ≤ 120 }
+fn push_component(object: &mut ArrayVec<u8, VECTOR_BYTES>, n: u32)
+    requires { length object.old.items + 4 ≤ VECTOR_BYTES }
     ensures { object.new.items ≡ object.old.items ++ to_be_bytes w32 n }
 {
     object.try_extend_from_slice(&n.to_be_bytes()).unwrap();

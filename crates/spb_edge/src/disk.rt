@@ -1,3 +1,4 @@
+//! A disk: a file of bytes that grows at its end.
 ghost use Rattle.std.specs.Prelude.{◌≡◌, ℕ, ◌+◌, ◌≤◌, Bool, List, IsTrue, OnOk, length, take, drop};
 
 use thiserror::Error;

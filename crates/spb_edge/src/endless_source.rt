@@ -1,3 +1,4 @@
+//! A source for tests that never ends.
 ghost use Rattle.std.specs.Prelude.{◌≡◌, ◌<◌, None, length, replicate};
 ghost use Rattle.spb_edge.specs.Source.{Gives, IsWithin, CountsFault};
 ghost use Rattle.spb_edge.specs.declared.source.Take.TheVariants.{Got};

@@ -1,3 +1,4 @@
+//! A sink in memory, for tests.
 ghost use Rattle.std.specs.Prelude.{◌≡◌, ◌<◌, ◌≤◌, Some, length, IfOk, vec_len, vec_capacity};
 ghost use Rattle.spb_edge.specs.MemSink.{SinkState, IsNewSink, Answers};
 ghost use Rattle.spb_edge.specs.Sink.{Takes, IsWithin, CountsFault};

@@ -1,3 +1,4 @@
+//! A source in memory, for tests.
 ghost use Rattle.std.specs.Prelude.{◌+◌, ◌<◌, ◌≤◌, Some, length, IfOk};
 ghost use Rattle.spb_edge.specs.MemSource.{SourceState, IsNewSource, Answers};
 ghost use Rattle.spb_edge.specs.Source.{Gives, IsWithin, CountsFault};

@@ -1,3 +1,4 @@
+//! Sinks, and putting all bytes into one.
 ghost use Rattle.std.specs.Prelude.{ℕ, ◌<◌, List, Option, length};
 ghost use Rattle.spb_edge.specs.Sink.{PutsAll, CountsPutFault};
 

@@ -1,3 +1,4 @@
+//! Sources.
 ghost use Rattle.std.specs.Prelude.{ℕ, ◌<◌, List, Option, length};
 
 /// What a call of [`Source::take`] answers.

@@ -1,3 +1,4 @@
+//! A disk in memory that never fails.
 ghost use Rattle.std.specs.Prelude.{◌≡◌, ◌+◌, true, IfOk, length};
 ghost use Rattle.spb_edge.specs.SureDisk.{Image};
 

@@ -129,7 +129,7 @@ impl Store {
 
 /// What a scan of a collection finds.
 #[derive(Drop)]
-pub(crate) struct Found {
+struct Found {
     /// The ids within the radius, rising.
     ids: Ids,
     /// How many distances were evaluated: one for each object of the collection.
