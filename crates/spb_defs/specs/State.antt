@@ -1,7 +1,8 @@
 -- The state of a store: what every command is answered from.
-use Rattle.std.specs.Prelude.{ℕ, ◌==◌, Bool, nat_le, List, [], length, Option, Some, None, if◌then◌else◌}
+use Rattle.std.specs.Prelude.{ℕ, ◌==◌, ◌≤◌, Bool, nat_le, List, [], length, Option, Some, None, if◌then◌else◌}
 use Rattle.std.specs.List.{filter_map}
-use Rattle.std.specs.Map.{lookup}
+use Rattle.std.specs.List.Sorted.{IsStrictlySortedBy}
+use Rattle.std.specs.Map.{lookup, keys_of}
 use Rattle.std.specs.BTreeMap.{is_at, insert_entry}
 use Rattle.std.specs.Ordering.{nat_cmp, ordering_then}
 use Rattle.std.specs.declared.cmp.Ordering.{Ordering}
@@ -43,6 +44,11 @@ is_full s = nat_le s.cap (length s.members)
 -- the members with the object under the key
 abbrev pub with_object : Members → ℕ → ℕ → List ℕ → Members
 with_object members c id object = insert_entry key_cmp members (c, id) object
+
+-- the members are a finite map, and no more than there may be
+pub record IsFiniteMap (s : State) : Type 0 where
+  pub order : IsStrictlySortedBy key_cmp (keys_of s.members)
+  pub room : length s.members ≤ s.cap
 
 -- the row of a member, where it is of the collection
 abbrev pub row_of : ℕ → Key × List ℕ → Option Row

@@ -8,7 +8,8 @@ ghost use Rattle.std.specs.Prelude.{◌≡◌, [], ◌∷◌, codes};
 ghost use Rattle.std.specs.List.{flat_map};
 ghost use Rattle.spb_defs.specs.Play.{play};
 ghost use Rattle.spb_edge.specs.declared.reader.Line.{Line};
-ghost use Rattle.spb_defs.specs.State.{State};
+ghost use Rattle.metrics_builtin.specs.declared.Space.{Space};
+ghost use Rattle.spb_defs.specs.State.{State, IsFiniteMap, empty_in_memory};
 ghost use Rattle.spb_defs.specs.Step.{reply, next, IsRefusal};
 ghost use Rattle.spb_defs.specs.Rows.{AreAnswered, ended, plane, with_pivots};
 
@@ -97,4 +98,12 @@ pub fn limits()
 /// A line that is refused leaves the state as it was. The call does nothing.
 pub fn refusals_change_nothing()
     ensures { (s : State) (line : Line) → IsRefusal (reply s line) → next s line ≡ s }
+{}
+
+/// The members of an empty store in memory, and of each state that lines lead to from there, stand in
+/// rising order of their keys, each key once, and they are no more than there may be. The call does
+/// nothing.
+pub fn members_are_finite_maps()
+    ensures first { (space : Space) → IsFiniteMap (empty_in_memory space) }
+    ensures next { (s : State) (line : Line) → IsFiniteMap s → IsFiniteMap (next s line) }
 {}
