@@ -1,0 +1,13 @@
+//! Vectors of a few coordinates, and what a space-filling curve over them is.
+//!
+//! A curve numbers the cells of a grid: the vectors of a fixed number of coordinates, each below a
+//! power of two. Each cell has one key, and each key one cell.
+#![tactic(auto)]
+
+mod curve;
+#[cfg(test)]
+mod tests;
+mod vect;
+
+pub use curve::{Curve, obeys_laws};
+pub use vect::Vect;
