@@ -11,7 +11,7 @@ use Rattle.spb_defs.specs.declared.What.TheVariants as what
 use Rattle.spb_defs.specs.Grammar.{command_in, command_of}
 use Rattle.spb_defs.specs.Words.{space_of}
 use Rattle.cmd_grammar.specs.declared.lines.LineError.{LineError}
-use Rattle.cmd_grammar.specs.ReadsCommand.{ReadsCommand}
+use Rattle.cmd_grammar.specs.ReadsCommand.{Gives}
 
 command_in-other : (space : Space) (words : List (List ℕ)) → (length words ≡ 4 → ⊥) → command_in space words ≡ Err what.Command
 command_in-other space [] other = refl
@@ -25,9 +25,9 @@ pub command_of-other : (space : Space) (line : List ℕ) → (length (slice_spli
 unfolding command_of
 command_of-other space line other = command_in-other space (slice_split (λ b. b == 32) line) other
 
-pub command_of-words : (space : Space) (line : List ℕ) (words : List (List ℕ)) (answer : Result Command LineError) → slice_split (λ b. b == 32) line ≡ words → ReadsCommand answer (command_in space words) → ReadsCommand answer (command_of space line)
+pub command_of-words : (space : Space) (line : List ℕ) (words : List (List ℕ)) (answer : Result Command LineError) → slice_split (λ b. b == 32) line ≡ words → Gives answer (command_in space words) → Gives answer (command_of space line)
 unfolding command_of
-command_of-words space line words answer e h = subst (λ (ws : List (List ℕ)). ReadsCommand answer (command_in space ws)) (sym e) h
+command_of-words space line words answer e h = subst (λ (ws : List (List ℕ)). Gives answer (command_in space ws)) (sym e) h
 
 space_of-other : (words : List (List ℕ)) → (length words ≡ 4 → ⊥) → space_of words ≡ None
 unfolding space_of

@@ -15,7 +15,8 @@ use Rattle.spb_defs.specs.declared.What.{What}
 use Rattle.spb_defs.specs.declared.What.TheVariants as what
 use Rattle.spb_defs.specs.Numbers.{number_within}
 use Rattle.spb_defs.specs.ObjectText.{object_of}
-use Rattle.spb_defs.specs.Grammar.{or_bad, ◌>>=◌, add_in, range_in, command_in, command_of}
+use Rattle.std.specs.Option.{ok_or}
+use Rattle.spb_defs.specs.Grammar.{◌>>=◌, add_in, range_in, command_in, command_of}
 use Rattle.object_text.specs.Texts.{text_of}
 use Rattle.object_text.proofs.Texts.{number_within-decimal, decimal-number_within, IsFree, IsFree-decimal, IsFree-text_of, split_joined, read_text, text_read}
 use Rattle.cmd_grammar.specs.OneLine.{words_of, command_text}
@@ -25,7 +26,7 @@ use Rattle.cmd_grammar.specs.ReadsCommand.{IsProper}
 
 abbrev three : What → (ℕ → ℕ → List ℕ → Command) → Option ℕ → Option ℕ → Option (List ℕ) → Result Command What
 three failed make first second third =
-    or_bad what.Collection first >>= (λ c. or_bad failed second >>= (λ n. or_bad what.Object third >>= (λ o. Ok (make c n o))))
+    ok_or first what.Collection >>= (λ c. ok_or second failed >>= (λ n. ok_or third what.Object >>= (λ o. Ok (make c n o))))
 
 record IsRead (make : ℕ → ℕ → List ℕ → Command) (first second : Option ℕ) (third : Option (List ℕ)) (command : Command) : Type 0 where
   collection : ℕ

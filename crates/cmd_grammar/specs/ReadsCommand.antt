@@ -14,9 +14,6 @@ Gives (Ok x) read = read ≡ Ok x
 Gives (Err (errors.Bad failed)) read = read ≡ Err failed
 Gives (Err errors.Memory) read = Unit {0}
 
-abbrev pub ReadsCommand : Result Command LineError → Result Command What → Type 0
-ReadsCommand answer read = Gives answer read
-
 -- the collection is one of the four, the number is in 32 bits, and the object is the space's
 abbrev pub IsProper : Space → Command → Type 0
 IsProper space (Add c id object) = (c < 4) × (id < 2 ^ 32) × IsValid space object

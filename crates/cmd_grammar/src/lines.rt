@@ -2,8 +2,9 @@ ghost use Rattle.std.specs.Prelude.{◌≡◌, ◌<◌, ◌≤◌, ◌==◌, [],
 ghost use Rattle.std.specs.List.{slice_split};
 ghost use Rattle.metrics_builtin.specs.Space.{fits, IsValid};
 ghost use Rattle.spb_defs.specs.Numbers.{number_within};
-ghost use Rattle.spb_defs.specs.Grammar.{or_bad, collection_in, object_in, command_in, add_in, range_in, command_of};
-ghost use Rattle.cmd_grammar.specs.ReadsCommand.{Gives, ReadsCommand, IsProper};
+ghost use Rattle.std.specs.Option.{ok_or};
+ghost use Rattle.spb_defs.specs.Grammar.{collection_in, object_in, command_in, add_in, range_in, command_of};
+ghost use Rattle.cmd_grammar.specs.ReadsCommand.{Gives, IsProper};
 
 use metrics_builtin::Space;
 use object_text::{TextError, cut, number, read_object};
@@ -34,33 +35,26 @@ pub enum LineError {
 /// runs out.
 pub fn read_command(alloc: Global, space: &Space, line: &[u8]) -> Result<Command, LineError>
     requires { IsTrue (fits space.now) }
-    ensures exact { ReadsCommand result (command_of space.now line.now) }
+    ensures exact { Gives result (command_of space.now line.now) }
     ensures proper { IfOk result (λ command. IsProper space.now command) }
 {
     match four_words(line) {
-        Some((name, first, second, third)) => command(alloc, space, name, first, second, third),
+        Some(words) => command(alloc, space, &words),
         None => Err(LineError::Bad(What::Command)),
     }
 }
 
 /// The command that the four words are.
-fn command(
-    alloc: Global,
-    space: &Space,
-    name: &[u8],
-    first: &[u8],
-    second: &[u8],
-    third: &[u8],
-) -> Result<Command, LineError>
+fn command(alloc: Global, space: &Space, words: &FourWords<'_>) -> Result<Command, LineError>
     requires { IsTrue (fits space.now) }
-    ensures exact { ReadsCommand result (command_in space.now (name.now ∷ first.now ∷ second.now ∷ third.now ∷ [])) }
+    ensures exact { Gives result (command_in space.now (words.now.name.now ∷ words.now.first.now ∷ words.now.second.now ∷ words.now.third.now ∷ [])) }
     ensures proper { IfOk result (λ command. IsProper space.now command) }
 {
-    if name == b"add".as_slice() {
-        return add(alloc, space, first, second, third);
+    if words.name == b"add".as_slice() {
+        return add(alloc, space, words.first, words.second, words.third);
     }
-    if name == b"range".as_slice() {
-        return range(alloc, space, first, second, third);
+    if words.name == b"range".as_slice() {
+        return range(alloc, space, words.first, words.second, words.third);
     }
     Err(LineError::Bad(What::Command))
 }
@@ -75,7 +69,7 @@ fn add(
     object: &[u8],
 ) -> Result<Command, LineError>
     requires { IsTrue (fits space.now) }
-    ensures exact { ReadsCommand result (add_in space.now collection.now id.now object.now) }
+    ensures exact { Gives result (add_in space.now collection.now id.now object.now) }
     ensures proper { IfOk result (λ command. IsProper space.now command) }
 {
     let c = collection_or(collection)?;
@@ -98,7 +92,7 @@ fn range(
     query: &[u8],
 ) -> Result<Command, LineError>
     requires { IsTrue (fits space.now) }
-    ensures exact { ReadsCommand result (range_in space.now collection.now radius.now query.now) }
+    ensures exact { Gives result (range_in space.now collection.now radius.now query.now) }
     ensures proper { IfOk result (λ command. IsProper space.now command) }
 {
     let c = collection_or(collection)?;
@@ -122,7 +116,7 @@ fn collection_or(word: &[u8]) -> Result<u8, LineError>
 
 /// The number that the word spells, where it is at most `most`, or what failed.
 fn number_or(failed: What, word: &[u8], most: u64) -> Result<u64, LineError>
-    ensures exact { Gives result (or_bad failed (number_within most word.now)) }
+    ensures exact { Gives result (ok_or (number_within most word.now) failed) }
     ensures small { IfOk result (λ n. n ≤ most) }
 {
     match number(word, most) {
@@ -145,16 +139,30 @@ fn object_or(alloc: Global, space: &Space, word: &[u8]) -> Result<Bytes, LineErr
 }
 
 /// The words of a line of four.
-fn four_words(line: &[u8]) -> Option<(&[u8], &[u8], &[u8], &[u8])>
+#[derive(Clone, Copy)]
+struct FourWords<'a> {
+    name: &'a [u8],
+    first: &'a [u8],
+    second: &'a [u8],
+    third: &'a [u8],
+}
+
+/// The words of the line, where it has four.
+fn four_words(line: &[u8]) -> Option<FourWords<'_>>
     ensures { MatchOption result
         (length (slice_split (λ b. b == 32) line.now) ≡ 4 → ⊥)
-        (λ words. slice_split (λ b. b == 32) line.now ≡ words.0.now ∷ words.1.now ∷ words.2.now ∷ words.3.now ∷ []) }
+        (λ words. slice_split (λ b. b == 32) line.now ≡ words.name.now ∷ words.first.now ∷ words.second.now ∷ words.third.now ∷ []) }
 {
     let (name, rest) = cut(b' ', line)?;
     let (first, rest) = cut(b' ', rest)?;
     let (second, third) = cut(b' ', rest)?;
     match cut(b' ', third) {
         Some(_) => None,
-        None => Some((name, first, second, third)),
+        None => Some(FourWords {
+            name,
+            first,
+            second,
+            third,
+        }),
     }
 }

@@ -1,7 +1,8 @@
 -- The grammar of commands. A line is split at every space, and neighbouring spaces make an empty word.
 -- The words are tested in this order: the command and the number of words, the collection, the id or
 -- the number, the object. The first that fails is named.
-use Rattle.std.specs.Prelude.{ℕ, ◌==◌, List, [], ◌∷◌, Option, Some, None, Result, Ok, Err, codes, if◌then◌else◌}
+use Rattle.std.specs.Prelude.{ℕ, ◌==◌, List, [], ◌∷◌, Result, Ok, Err, codes, if◌then◌else◌}
+use Rattle.std.specs.Option.{ok_or}
 use Rattle.std.specs.List.{slice_split}
 use Rattle.std.specs.Str.{bytes_eq}
 use Rattle.metrics_builtin.specs.declared.Space.{Space}
@@ -18,22 +19,17 @@ abbrev pub ◌>>=◌ : {A B : Type 0} → Result A What → (A → Result B What
 (Ok x) >>= f = f x
 (Err e) >>= f = Err e
 
--- what was read, or what failed
-abbrev pub or_bad : {A : Type 0} → What → Option A → Result A What
-or_bad failed None = Err failed
-or_bad failed (Some x) = Ok x
-
 abbrev pub collection_in : List ℕ → Result ℕ What
-collection_in word = or_bad what.Collection (number_within 3 word)
+collection_in word = ok_or (number_within 3 word) what.Collection
 
 abbrev pub id_in : List ℕ → Result ℕ What
-id_in word = or_bad what.Id (number_within 4294967295 word)
+id_in word = ok_or (number_within 4294967295 word) what.Id
 
 abbrev pub radius_in : List ℕ → Result ℕ What
-radius_in word = or_bad what.Number (number_within 4294967295 word)
+radius_in word = ok_or (number_within 4294967295 word) what.Number
 
 abbrev pub object_in : Space → List ℕ → Result (List ℕ) What
-object_in space word = or_bad what.Object (object_of space word)
+object_in space word = ok_or (object_of space word) what.Object
 
 unfoldable pub add_in : Space → List ℕ → List ℕ → List ℕ → Result Command What
 add_in space collection id object = do

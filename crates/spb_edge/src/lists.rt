@@ -16,7 +16,7 @@ impl Model for Bytes {
 }
 
 impl Bytes {
-    /// A copy of `items`. It takes memory only where there are any.
+    /// A copy of `items`.
     pub fn of(alloc: Global, items: &[u8]) -> Result<Bytes, Memory>
         ensures { IfOk result (λ bytes. bytes ≡ items.now) }
     {
@@ -57,7 +57,7 @@ impl Model for Ids {
 }
 
 impl Ids {
-    /// A copy of `items`. It takes memory only where there are any.
+    /// A copy of `items`.
     pub fn of(alloc: Global, items: &[u32]) -> Result<Ids, Memory>
         ensures { IfOk result (λ ids. ids ≡ items.now) }
     {

@@ -4,6 +4,7 @@ use Rattle.std.proofs.Common.{◌≡◌, ℕ, ◌+◌, ◌^◌, ◌≤◌, List,
 use Rattle.std.specs.Prelude.{Bool, false, IfSome, IsTrue, ◌⊎◌}
 use Rattle.std.proofs.lemmas.Bool.{false≢true}
 use Rattle.std.proofs.lemmas.List.{take_at, take-append-drop}
+use Rattle.std.proofs.lemmas.Option.{none-some}
 use Rattle.spb_edge.specs.declared.reader.Line.{Line}
 use Rattle.spb_edge.specs.declared.reader.Line.TheVariants.{Text, Long, End}
 use Rattle.spb_edge.specs.declared.reader.EdgeError.{EdgeError}
@@ -27,23 +28,23 @@ use Rattle.spb_top.specs.declared.status.Status.{Status}
 use Rattle.spb_top.specs.declared.status.Status.TheVariants.{Done}
 use Rattle.spb_top.specs.Run.{WritesFront, Writes, LeavesInput, HasCause, stopped_by}
 
--- what was written and the replies to what is left are the replies to the script
-pub record Completes (script : List ℕ) (first : State) (written left : List ℕ) (now : State) : Type 0 where
+-- whatever follows the bytes that went, the replies to the lines that an LF ends begin with what was
+-- written: these bytes are whole lines
+abbrev pub AreWhole : List ℕ → State → List ℕ → State → Type 0
+AreWhole took first written now = (more : List ℕ) → play_ended first (took ++ more) ≡ written ++ play_ended now more
+
+-- what was written and the replies to what is left are the replies to the script. The bytes that went are
+-- whole lines, until the source has ended.
+pub record Completes (script : List ℕ) (first : State) (written left : List ℕ) (now : State) (ended : Bool) : Type 0 where
   pub text : written ++ play_lines now (lines_of LINE_LIMIT left) ≡ play first script
   pub took : List ℕ
   pub split : script ≡ took ++ left
-
--- the bytes of whole lines, which went: whatever follows them, the replies to the lines that an LF ends
--- begin with what was written
-pub record Went (script : List ℕ) (first : State) (written left : List ℕ) (now : State) : Type 0 where
-  pub bytes : List ℕ
-  pub split : script ≡ bytes ++ left
-  pub whole : (more : List ℕ) → play_ended first (bytes ++ more) ≡ written ++ play_ended now more
+  pub whole : IsTrue ended ⊎ AreWhole took first written now
 
 -- the same of a script that is told, with the count of its bytes
 abbrev pub Follows : {S : Type 0} {G : source.Ghosts S} → List ℕ → State → List ℕ → LineReader S G → State → Type 0
-Follows script first written reader now = (left : List ℕ) × (rest reader ≡ Some left) × Completes script first written left now
-    × (taken reader + length left ≡ length (unread reader) + length script) × (IsTrue (has_ended reader) ⊎ Went script first written left now)
+Follows script first written reader now = (left : List ℕ) × (rest reader ≡ Some left) × Completes script first written left now (has_ended reader)
+    × (taken reader + length left ≡ length (unread reader) + length script)
 
 module _ {S K : Type 0} (G : source.Ghosts S) (H : sink.Ghosts K) where
   pub record Answering (first : State) (reader : LineReader S G) (output : K) (now : LineReader S G) (sink : K) (state : State) (written : List ℕ) : Type 0 where
@@ -58,7 +59,7 @@ module _ {S K : Type 0} (G : source.Ghosts S) (H : sink.Ghosts K) where
   pub Answering-start : (first : State) (reader : LineReader S G) (output : K) → taken reader ≡ 0 → unread reader ≡ [] → has_ended reader ≡ false → HasValidObjects first.space first.members → Answering first reader output reader output first []
   Answering-start first reader output none empty running valid = record {
     wrote = sym (told_then-nil (H.taken output));
-    follows = λ script told. (script, told, record { text = refl; took = []; split = refl }, omega (arith, ap length empty, none), inr (record { bytes = []; split = refl; whole = λ more. refl }));
+    follows = λ script told. (script, told, record { text = refl; took = []; split = refl; whole = inr (λ more. refl) }, omega (arith, ap length empty, none));
     is_open = record { total = omega arith; ended = λ ended. absurd (false≢true (sym running ∙ ended)) };
     source = omega arith;
     sink_faults = omega arith;
@@ -66,9 +67,6 @@ module _ {S K : Type 0} (G : source.Ghosts S) (H : sink.Ghosts K) where
   }
 
 -- ---- what is left, from line to line
-
-some_is_not_none : {A : Type 0} {x : A} → Some x ≡ None → ⊥
-some_is_not_none e = cc
 
 pub some_is : {A : Type 0} {x y : A} → Some x ≡ Some y → x ≡ y
 some_is e = cc
@@ -80,27 +78,27 @@ next_of (Text text) left (Some left') not_end at = (left', refl, at)
 next_of Long left (Some left') not_end at = (left', refl, at)
 next_of End left (Some left') not_end at = absurd (not_end refl)
 
--- what was taken off went from the front of what is left
-taken_off : (left bytes : List ℕ) (new : Option (List ℕ)) → Some left ≡ before_told bytes new → (left' : List ℕ) × (new ≡ Some left') × (left ≡ bytes ++ left')
-taken_off left bytes None at = absurd (some_is_not_none at)
-taken_off left bytes (Some left') at = (left', refl, some_is at)
-
--- what is behind the unread bytes, where what is left is told
+-- what is told begins with the front, and the rest is told too
 behind_told : (front left : List ℕ) (behind : Option (List ℕ)) → before_told front behind ≡ Some left → (back : List ℕ) × (behind ≡ Some back) × (left ≡ front ++ back)
-behind_told front left None at = absurd (some_is_not_none (sym at))
+behind_told front left None at = absurd (none-some left at)
 behind_told front left (Some back) at = (back, refl, sym (some_is at))
 
 -- what is unread is part of what is left
 unread_in : (front left : List ℕ) (behind : Option (List ℕ)) → before_told front behind ≡ Some left → length front ≤ length left
-unread_in front left None at = absurd (some_is_not_none (sym at))
-unread_in front left (Some rest) at = let long = ap length (some_is at) in omega (arith, length-append front rest)
+unread_in front left behind at =
+    let told = behind_told front left behind at in
+    let long = ap length told.2 in omega (arith, length-append front told.0)
+
+-- the script, where more went off its front
+split_on : (script took left bytes left' : List ℕ) → script ≡ took ++ left → left ≡ bytes ++ left' → script ≡ (took ++ bytes) ++ left'
+split_on script took left bytes left' split cut = split ∙ ap (λ xs. took ++ xs) cut ∙ sym (append_assoc took bytes left')
 
 module _ {S : Type 0} {G : source.Ghosts S} where
   -- the count of what was taken and what is left, after a call
   counts_off : (script left bytes : List ℕ) (now new : LineReader S G) → rest now ≡ Some left → taken now + length left ≡ length (unread now) + length script → TakesOff now new bytes
       → (left' : List ℕ) × (rest new ≡ Some left') × (left ≡ bytes ++ left') × (taken new + length left' ≡ length (unread new) + length script) × (length (unread new) ≤ length left')
   counts_off script left bytes now new told count off =
-      let at = taken_off left bytes (rest new) (sym told ∙ off.front) in
+      let at = behind_told bytes left (rest new) (sym off.front ∙ told) in
       let long = ap length at.2 in
       let counted = off.count in (
         at.0,
@@ -125,39 +123,31 @@ line_at Long bytes left ended not_end at = at
 line_at End bytes left ended not_end at = absurd (not_end refl)
 
 -- one whole line more went, or the source has ended behind the last
-went_line : (script : List ℕ) (first : State) (written left left' : List ℕ) (state state' : State) (line : Line) (text bytes : List ℕ) (behind : Option (List ℕ)) (ended ended' : Bool)
-    → (IsTrue ended ⊎ Went script first written left state) → (IsTrue ended → ⊥) → IsLineAt LINE_LIMIT line bytes behind ended' → left ≡ bytes ++ left' → text ≡ reply_text (reply state line) → state' ≡ next state line
-    → IsTrue ended' ⊎ Went script first (written ++ text) left' state'
-went_line script first written left left' state state' line text bytes behind ended ended' (inl end) not_ended how cut replies goes = absurd (not_ended end)
-went_line script first written left left' state state' line text bytes behind ended ended' (inr went) not_ended (piece, none, is, inr last) cut replies goes = inl last.3
-went_line script first written left left' state state' line text bytes behind ended ended' (inr went) not_ended (piece, none, is, inl lf) cut replies goes =
-    inr (record {
-      bytes = went.bytes ++ bytes;
-      split = went.split ∙ ap (λ xs. went.bytes ++ xs) cut ∙ sym (append_assoc went.bytes bytes left');
-      whole = λ more.
-          let cells : bytes ++ more ≡ piece ++ 10 ∷ more = ap (λ xs. xs ++ more) lf ∙ append_assoc piece (10 ∷ []) more in
-          let lines : ended_lines LINE_LIMIT (bytes ++ more) ≡ line ∷ ended_lines LINE_LIMIT more =
-          ap (ended_lines LINE_LIMIT) cells ∙ ended_lines-ended LINE_LIMIT piece more none ∙ ap (λ l. l ∷ ended_lines LINE_LIMIT more) (sym is) in
-          ap (play_ended first) (append_assoc went.bytes bytes more) ∙ went.whole (bytes ++ more)
-          ∙ ap (λ ls. written ++ play_lines state ls) lines
-          ∙ ap (λ t. written ++ (t ++ play_lines (next state line) (ended_lines LINE_LIMIT more))) (sym replies)
-          ∙ ap (λ st. written ++ (text ++ play_lines st (ended_lines LINE_LIMIT more))) (sym goes)
-          ∙ sym (append_assoc written text (play_ended state' more));
-    })
+whole_line : (took : List ℕ) (first : State) (written : List ℕ) (state state' : State) (line : Line) (text bytes : List ℕ) (behind : Option (List ℕ)) (ended ended' : Bool)
+    → (IsTrue ended ⊎ AreWhole took first written state) → (IsTrue ended → ⊥) → IsLineAt LINE_LIMIT line bytes behind ended' → text ≡ reply_text (reply state line) → state' ≡ next state line
+    → IsTrue ended' ⊎ AreWhole (took ++ bytes) first (written ++ text) state'
+whole_line took first written state state' line text bytes behind ended ended' (inl end) not_ended how replies goes = absurd (not_ended end)
+whole_line took first written state state' line text bytes behind ended ended' (inr whole) not_ended (piece, none, is, inr last) replies goes = inl last.3
+whole_line took first written state state' line text bytes behind ended ended' (inr whole) not_ended (piece, none, is, inl lf) replies goes =
+    inr (λ more.
+    let cells : bytes ++ more ≡ piece ++ 10 ∷ more = ap (λ xs. xs ++ more) lf ∙ append_assoc piece (10 ∷ []) more in
+    let lines : ended_lines LINE_LIMIT (bytes ++ more) ≡ line ∷ ended_lines LINE_LIMIT more =
+    ap (ended_lines LINE_LIMIT) cells ∙ ended_lines-ended LINE_LIMIT piece more none ∙ ap (λ l. l ∷ ended_lines LINE_LIMIT more) (sym is) in
+    ap (play_ended first) (append_assoc took bytes more) ∙ whole (bytes ++ more)
+    ∙ ap (λ ls. written ++ play_lines state ls) lines
+    ∙ ap (λ t. written ++ (t ++ play_lines (next state line) (ended_lines LINE_LIMIT more))) (sym replies)
+    ∙ ap (λ st. written ++ (text ++ play_lines st (ended_lines LINE_LIMIT more))) (sym goes)
+    ∙ sym (append_assoc written text (play_ended state' more)))
 
 -- where the source hadn't ended, whole lines went
-went_of : (script : List ℕ) (first : State) (written left : List ℕ) (state : State) (ended : Bool) → (IsTrue ended ⊎ Went script first written left state) → (IsTrue ended → ⊥) → Went script first written left state
-went_of script first written left state ended (inl end) not_ended = absurd (not_ended end)
-went_of script first written left state ended (inr went) not_ended = went
+whole_of : (took : List ℕ) (first : State) (written : List ℕ) (state : State) (ended : Bool) → (IsTrue ended ⊎ AreWhole took first written state) → (IsTrue ended → ⊥) → AreWhole took first written state
+whole_of took first written state ended (inl end) not_ended = absurd (not_ended end)
+whole_of took first written state ended (inr whole) not_ended = whole
 
 -- behind whole lines came bytes that no LF ended
-went_unended : (script : List ℕ) (first : State) (written left bytes left' : List ℕ) (state : State) → Went script first written left state → HasNoLf bytes → left ≡ bytes ++ left'
-    → (took : List ℕ) × (script ≡ took ++ left') × (play_ended first took ≡ written)
-went_unended script first written left bytes left' state went none cut = (
-  went.bytes ++ bytes,
-  went.split ∙ ap (λ xs. went.bytes ++ xs) cut ∙ sym (append_assoc went.bytes bytes left'),
-  went.whole bytes ∙ ap (λ ls. written ++ play_lines state ls) (ended_lines-none LINE_LIMIT bytes none) ∙ append-nil written,
-)
+whole_and_more : (took : List ℕ) (first : State) (written bytes : List ℕ) (state : State) → AreWhole took first written state → HasNoLf bytes → play_ended first (took ++ bytes) ≡ written
+whole_and_more took first written bytes state whole none =
+    whole bytes ∙ ap (λ ls. written ++ play_lines state ls) (ended_lines-none LINE_LIMIT bytes none) ∙ append-nil written
 
 -- ---- how a run ends
 
@@ -234,10 +224,10 @@ module _ {S K : Type 0} (G : source.Ghosts S) (H : sink.Ghosts K) where
               record {
                 text = append_assoc written text (play_lines state' (lines_of LINE_LIMIT count.0)) ∙ ap (λ t. written ++ t) (sym more) ∙ follows.2.text;
                 took = follows.2.took ++ bytes;
-                split = follows.2.split ∙ ap (λ xs. follows.2.took ++ xs) count.2 ∙ sym (append_assoc follows.2.took bytes count.0);
+                split = split_on script follows.2.took follows.0 bytes count.0 follows.2.split count.2;
+                whole = whole_line follows.2.took first written state state' line text bytes (rest new) (has_ended now) (has_ended new) follows.2.whole (λ end. running line not_end (after end)) how replies goes;
               },
               count.3,
-              went_line script first written follows.0 count.0 state state' line text bytes (rest new) (has_ended now) (has_ended new) follows.4 (λ end. running line not_end (after end)) how count.2 replies goes,
             );
         is_open = is_open;
         source = omega arith;
@@ -267,10 +257,10 @@ module _ {S K : Type 0} (G : source.Ghosts S) (H : sink.Ghosts K) where
   text_cut first reader output now sink state written so new bytes off e cause none not_ended not_memory script told =
       let follows = so.follows script told in
       let count = counts_off script follows.0 bytes now new follows.1 follows.3 off in
-      let went = went_of script first written follows.0 state (has_ended now) follows.4 not_ended in
+      let whole = whole_of follows.2.took first written state (has_ended now) follows.2.whole not_ended in
       stopped_text e first script written count.0 (H.taken output) (H.taken sink) (G.left new.source.now) (unread new) (faults now) (faults new) (taken new)
       (front_so_far first reader output now sink state written so script told) so.wrote cause count.1 count.3 not_memory
-      (went_unended script first written follows.0 bytes count.0 state went none count.2)
+      (follows.2.took ++ bytes, split_on script follows.2.took follows.0 bytes count.0 follows.2.split count.2, whole_and_more follows.2.took first written bytes state whole none)
 
   text_by : (first : State) (reader : LineReader S G) (output : K) (now : LineReader S G) (sink : K) (state : State) (written : List ℕ) → Answering G H first reader output now sink state written
       → (new : LineReader S G) (bytes : List ℕ) → TakesOff now new bytes → (e : EdgeError) → reads.HasCause (Err e) (faults now) (faults new) (taken new) (length (unread new)) → HasNoLf bytes → (IsTrue (has_ended now) → EndsAgain (Err e))
@@ -326,8 +316,7 @@ module _ {S K : Type 0} (G : source.Ghosts S) (H : sink.Ghosts K) where
       let behind = behind_told (unread new) count.0 (G.left new.source.now) count.1 in
       let before = follows.2.took ++ bytes in
       let cut : script ≡ (before ++ unread new) ++ behind.0 =
-      follows.2.split ∙ ap (λ xs. follows.2.took ++ xs) count.2 ∙ sym (append_assoc follows.2.took bytes count.0)
-      ∙ ap (λ xs. before ++ xs) behind.2 ∙ sym (append_assoc before (unread new) behind.0) in
+      split_on script before count.0 (unread new) behind.0 (split_on script follows.2.took follows.0 bytes count.0 follows.2.split count.2) behind.2 in
       record {
         took = before ++ unread new;
         front = ap Some cut ∙ ap (before_told (before ++ unread new)) (sym behind.1);

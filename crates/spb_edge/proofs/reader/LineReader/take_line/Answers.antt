@@ -1,5 +1,6 @@
-use Rattle.std.proofs.Common.{◌≡◌, true, false, Result, Ok, Err, [], sym, ◌∙◌, arith, rules}
+use Rattle.std.proofs.Common.{◌≡◌, Result, Ok, Err, [], sym, ◌∙◌, arith, rules}
 use Rattle.std.specs.Prelude.{IsTrue}
+use Rattle.std.proofs.lemmas.Bool.{true≢false}
 use Rattle.spb_edge.specs.Reader.{has_ended}
 use Rattle.std.proofs.lemmas.Result.{err_from_is_err_and}
 use Rattle.spb_edge.proofs.Reading.{TakesOff-nothing, at_lf, goes_on, at_stream_end, more_came, Refills-rest, Scans-is, Refills-is, answered, budget-off, Spells-from_line, Spells-from_error, LowersBudget-closed, IsNextLine-closed, IsOpen-seen, IsOpen-at_lf, not_ended_at_lf, EndsAgain-closed}
@@ -10,9 +11,6 @@ err_is_not_ok e = cc
 
 ok_is : {A E : Type 0} {x y : A} → ◌≡◌ {A = Result A E} (Ok x) (Ok y) → x ≡ y
 ok_is e = cc
-
-true_is_not_false : true ≡ false → ⊥
-true_is_not_false e = cc
 
 pub returns-in-Ended-clause-consumed : goal.returns-in-Ended-clause-consumed
 returns-in-Ended-clause-consumed g c =
@@ -101,5 +99,5 @@ loop-ended-preserved g c =
     let so = c.loop-ended.invariant.1.1 in
     let seen = Scans-is c.args.limit c.loop-ended.line c.loop-ended.self c.scan.new.self _ _ c.in-Open.is c.in_ok-ended.ensures.scans in
     let left = Refills-is c.scan.new.self c.refill.new.self _ _ c.if-not-branch.false c.in_ok-refill.ensures.refills in
-    let running : IsTrue (has_ended c.scan.new.self) → ⊥ = λ ended. true_is_not_false (sym c.if-not-branch.false ∙ ok_is (sym c.in_ok-refill.was ∙ c.refill.ensures.after_end ended)) in
+    let running : IsTrue (has_ended c.scan.new.self) → ⊥ = λ ended. true≢false (sym c.if-not-branch.false ∙ ok_is (sym c.in_ok-refill.was ∙ c.refill.ensures.after_end ended)) in
     (search rules, more_came c.args.limit c.args.self.now c.loop-ended.self c.scan.new.self c.refill.new.self c.loop-ended.line c.in-Open.open _ so seen c.in_ok-ended.ensures.source c.in_ok-ended.ensures.taken c.in_ok-ended.ensures.ended running left)
