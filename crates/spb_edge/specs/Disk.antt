@@ -1,8 +1,9 @@
 -- What an answer of a disk says.
-use Rattle.std.specs.Prelude.{◌≡◌, ℕ, ◌+◌, ◌<◌, ◌≤◌, ◌⊎◌, List, ◌++◌, length, take, drop, max, slice_index, Result, Ok, Err}
+use Rattle.std.specs.Prelude.{◌≡◌, ℕ, ◌+◌, ◌<◌, ◌≤◌, List, ◌++◌, length, take, drop, max, Result, Ok, Err}
 use Rattle.spb_edge.specs.declared.disk.DiskError.{DiskError}
 use Rattle.spb_edge.specs.declared.disk.DiskError.TheVariants.{Failed, Memory}
 use Rattle.spb_edge.specs.Fault.{Rose}
+use Rattle.spb_edge.specs.Crash.{AlikeOutside}
 
 -- a size that is answered is the length
 abbrev pub Sizes : Result ℕ DiskError → ℕ → Type 0
@@ -12,10 +13,6 @@ Sizes (Err e) size = Unit {0}
 -- the image with the bytes laid over it
 abbrev pub laid : List ℕ → ℕ → List ℕ → List ℕ
 laid image at bytes = take at image ++ bytes ++ drop (at + length bytes) image
-
--- the images are alike outside of a range
-abbrev pub AlikeOutside : ℕ → ℕ → List ℕ → List ℕ → Type 0
-AlikeOutside from to old new = (k : ℕ) → k < length old → (k < from) ⊎ (to ≤ k) → slice_index new k ≡ slice_index old k
 
 -- a write lays its bytes over the image, and a refused one changes nothing outside of its range
 abbrev pub Writes : Result Unit DiskError → ℕ → List ℕ → List ℕ → List ℕ → Type 0

@@ -4,7 +4,14 @@ pub mod Source
 pub mod Sink
 pub mod Lines
 pub mod MemSource
+pub mod Crash
+pub mod Moments
+pub mod Quiet
 pub mod Disk
+pub mod Tears
 pub mod SureDisk
+pub mod CallLog
+pub mod Contents
+pub mod MemDisk
 pub mod MemSink
 pub mod Reader

@@ -24,8 +24,3 @@ CountsFault Failed before now = (before ≤ now) × Rose before now
 abbrev pub PutsAll : {E : Type 0} → Result Unit E → List ℕ → Option (List ℕ) → Option (List ℕ) → Type 0
 PutsAll (Ok _) bytes old new = new ≡ told_then old bytes
 PutsAll (Err _) bytes old new = (n : ℕ) × (n < length bytes) × (new ≡ told_then old (take n bytes))
-
--- the answer of a write that may fail: a failure is counted, and the count never falls
-abbrev pub CountsPutFault : {E : Type 0} → Result Unit E → ℕ → ℕ → Type 0
-CountsPutFault (Ok _) before now = before ≤ now
-CountsPutFault (Err _) before now = (before ≤ now) × Rose before now

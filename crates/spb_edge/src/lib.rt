@@ -4,9 +4,13 @@
 //! said of what tells, and the clauses on faults hold of all.
 #![tactic(auto)]
 
+mod call_log;
+mod contents;
 mod disk;
 mod endless_source;
+mod lay;
 mod lists;
+mod mem_disk;
 mod mem_sink;
 mod mem_source;
 mod memory;
@@ -15,9 +19,11 @@ mod sink;
 mod source;
 mod sure_disk;
 
+pub use call_log::DiskCall;
 pub use disk::{Disk, DiskError};
 pub use endless_source::EndlessSource;
 pub use lists::{Bytes, Ids};
+pub use mem_disk::{Choice, MemDisk};
 pub use mem_sink::MemSink;
 pub use mem_source::MemSource;
 pub use memory::Memory;

@@ -23,6 +23,13 @@ impl Bytes {
         Ok(Bytes(Vec::from_slice(alloc, items)?))
     }
 
+    /// The bytes of a vector, as they are.
+    pub(crate) fn from_vec(items: Vec<u8>) -> Bytes
+        ensures { result ≡ items.items }
+    {
+        Bytes(items)
+    }
+
     /// Puts `items` at the end. Where memory runs out nothing changes.
     pub fn append(&mut self, items: &[u8]) -> Result<(), Memory>
         ensures ok { OnOk result (self.new ≡ self.old ++ items.now) }
@@ -62,6 +69,13 @@ impl Ids {
         ensures { IfOk result (λ ids. ids ≡ items.now) }
     {
         Ok(Ids(Vec::from_slice(alloc, items)?))
+    }
+
+    /// The ids of a vector, as they are. It takes no memory.
+    pub fn from_vec(items: Vec<u32>) -> Ids
+        ensures { result ≡ items.items }
+    {
+        Ids(items)
     }
 
     /// Puts `items` at the end. Where memory runs out nothing changes.

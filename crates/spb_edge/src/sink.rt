@@ -1,6 +1,7 @@
 //! Sinks, and putting all bytes into one.
 ghost use Rattle.std.specs.Prelude.{ℕ, ◌<◌, List, Option, length};
-ghost use Rattle.spb_edge.specs.Sink.{PutsAll, CountsPutFault};
+ghost use Rattle.spb_edge.specs.Fault.{IsCounted};
+ghost use Rattle.spb_edge.specs.Sink.{PutsAll};
 
 use thiserror::Error;
 
@@ -41,7 +42,7 @@ pub struct WriteFault;
 /// was put.
 pub fn put_all<K: Sink>(sink: &mut K, bytes: &[u8]) -> Result<(), WriteFault>
     ensures puts { PutsAll result bytes.now (K.taken sink.old) (K.taken sink.new) }
-    ensures fault { CountsPutFault result (K.faults sink.old) (K.faults sink.new) }
+    ensures fault { IsCounted result (K.faults sink.old) (K.faults sink.new) }
 {
     let mut done = 0;
     while done < bytes.len() {

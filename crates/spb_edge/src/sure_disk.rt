@@ -2,6 +2,7 @@
 ghost use Rattle.std.specs.Prelude.{◌≡◌, ◌+◌, true, IfOk, length};
 ghost use Rattle.spb_edge.specs.SureDisk.{Image};
 
+use crate::lay::lay;
 use crate::{Bytes, Disk, DiskError, Memory};
 use std::alloc::Global;
 use std::marker::Model;
@@ -34,19 +35,42 @@ impl SureDisk {
 }
 
 impl Disk for SureDisk {
+    ghost use Rattle.std.proofs.Common.{false, refl, ◌∙◌};
+    ghost use Rattle.spb_edge.specs.SureDisk.{quiet_is};
+
     ghost told = { λ _. true };
+
+    ghost tells_crashes = { λ _. false };
 
     ghost image = { λ d. d.bytes };
 
     ghost size_of = { λ d. length d.bytes };
 
+    ghost may_leave = { λ _ _. Unit };
+
+    ghost moment = { λ _. 0 };
+
+    ghost left_since = { λ _ _ _. Unit };
+
     ghost reads = { λ d. d.reads };
 
     ghost faults = { λ _. 0 };
 
-    ghost use Rattle.std.specs.Prelude.{refl};
+    ghost quiet = { λ old new. new.bytes ≡ old.bytes };
 
     ghost length_is = { λ _ _. refl };
+
+    ghost leaves_image = { λ _ _. tt };
+
+    ghost counts_now = { λ _ _ _ _ _. tt };
+
+    ghost only_now = { λ _ _ _. tt };
+
+    ghost quiet_is = { λ old new same. quiet_is old new same };
+
+    ghost quiet_same = { λ _. refl };
+
+    ghost quiet_chains = { λ _ _ _ first second. second ∙ first };
 
     fn size(&mut self) -> Result<u64, DiskError> {
         Ok(self.image.len() as u64)
@@ -60,12 +84,9 @@ impl Disk for SureDisk {
     }
 
     fn write_at(&mut self, at: u64, bytes: &[u8]) -> Result<(), DiskError> {
-        let at = at as usize;
-        let over = bytes.len().min(self.image.len() - at);
-        if let Err(_) = self.image.extend_from_slice(&bytes[over..]) {
+        if let Err(_) = lay(&mut self.image, at as usize, bytes) {
             return Err(DiskError::Memory);
         }
-        self.image[at..at + over].copy_from_slice(&bytes[..over]);
         Ok(())
     }
 

@@ -1,5 +1,5 @@
 //! That each call can succeed, how errors print, and worked streams.
-ghost use Rattle.std.specs.Prelude.{OnOk};
+ghost use Rattle.std.specs.Prelude.{◌≤◌, length, OnOk};
 ghost use Rattle.spb_edge.specs.Reader.{IsOpen};
 
 use super::*;
@@ -155,5 +155,69 @@ fn errors_in_words(rt: HostRuntime) -> Result<(), Fail> {
     assert!(rt; format!(in rt.alloc(); "{e}")?.as_str() == "out of memory");
     let e = WriteFault;
     assert!(rt; format!(in rt.alloc(); "{e}")?.as_str() == "write fault");
+    Ok(())
+}
+
+/// Writes down whether a call succeeded.
+fn mark(marks: &mut Bytes, ok: bool) -> Result<(), Fail> {
+    Ok(marks.append(if ok { b"+" } else { b"-" })?)
+}
+
+/// Makes six calls, and writes down which of them succeed.
+fn marks_of(alloc: Global, disk: &mut MemDisk) -> Result<Bytes, Fail>
+    requires { 4 ≤ length disk.old.held.image }
+{
+    let mut marks = Bytes::of(alloc, &[])?;
+    mark(&mut marks, disk.size().is_ok())?;
+    mark(&mut marks, disk.write_at(3, b"xyz").is_ok())?;
+    mark(&mut marks, disk.read(0, &mut [0; 4]).is_ok())?;
+    mark(&mut marks, disk.sync().is_ok())?;
+    mark(&mut marks, disk.write_at(4, b"!").is_ok())?;
+    mark(&mut marks, disk.size().is_ok())?;
+    Ok(marks)
+}
+
+#[test]
+fn a_disk_fails_where_it_was_told_to(rt: HostRuntime) -> Result<(), Fail> {
+    let rows: [(&[u64], Option<u64>, usize, usize, &str, usize, &str); 6] = [
+        (&[], None, 6, 4, "++++++", 6, "abcx!z"),
+        (&[2, 4], None, 6, 4, "+-+-++", 6, "abcd!"),
+        (&[], Some(3), 6, 4, "+++---", 3, "abcxyz"),
+        (&[], None, 4, 4, "++++--", 4, "abcxyz"),
+        (&[], None, 6, 2, "+-++++", 5, "abcd!"),
+        (&[2], None, 6, 2, "+--+++", 5, "abcd!"),
+    ];
+    for (failing, stop, calls, bytes, marks, made, image) in rows {
+        let mut disk = MemDisk::new(rt.alloc(), b"abcd", failing, stop, calls, bytes)?;
+        let answers = marks_of(rt.alloc(), &mut disk)?;
+        assert!(rt; answers.as_slice() == marks.as_bytes(), "{marks}");
+        assert!(rt; disk.calls().len() == made, "{marks}");
+        assert!(rt; disk.image() == image.as_bytes(), "{marks}");
+    }
+    Ok(())
+}
+
+#[test]
+fn a_disk_shows_what_a_crash_may_leave(rt: HostRuntime) -> Result<(), Fail> {
+    let mut disk = MemDisk::new(rt.alloc(), b"abcd", &[2], None, 3, 4)?;
+    disk.write_at(3, b"xyz")?;
+    assert!(rt; disk.write_at(6, b"!") == Err(DiskError::Failed));
+    for (choice, image) in [
+        (Choice::KeepAll, "abcxyz"),
+        (Choice::DropAll, "abcd"),
+        (Choice::Fill(b'.'), "abc...."),
+    ] {
+        let left = disk.after_crash(rt.alloc(), choice)?;
+        assert!(rt; left.as_slice() == image.as_bytes(), "{image}");
+    }
+    disk.sync()?;
+    for choice in [Choice::KeepAll, Choice::DropAll, Choice::Fill(b'.')] {
+        let left = disk.after_crash(rt.alloc(), choice)?;
+        assert!(rt; left.as_slice() == b"abcxyz".as_slice());
+    }
+    assert!(rt; disk.written() == b"xyz!".as_slice());
+    let first = DiskCall::Write { at: 3, len: 3 };
+    let second = DiskCall::Write { at: 6, len: 1 };
+    assert!(rt; disk.calls() == [first, second, DiskCall::Sync].as_slice());
     Ok(())
 }

@@ -1,0 +1,36 @@
+-- The images of the journal, taken from the disk behind one another.
+use Rattle.std.proofs.Common.{◌≡◌, ℕ, suc, ◌+◌, ◌*◌, List, [], ◌∷◌, ◌++◌, length, take, drop, refl, ◌∙◌, ap, arith, append_assoc}
+use Rattle.std.proofs.lemmas.List.{drop-take, drop-drop, take_at, drop_at}
+use Rattle.redo_journal.specs.Header.{named}
+use Rattle.redo_journal.specs.Pages.{page}
+use Rattle.redo_journal.specs.Redo.{images_from, journal_of}
+use Rattle.redo_journal.specs.Change.{paired}
+use Rattle.redo_journal.proofs.Pages.{page_front}
+
+-- so many pages from a place on are the images there
+pub images_read : (image : List ℕ) (i : ℕ) (ns : List ℕ) → paired 512 ns (take (512 * length ns) (drop (512 * i) image)) ≡ images_from image i ns
+images_read image i [] = refl
+images_read image i (n ∷ ns) =
+    let more : 512 * length (n ∷ ns) ≡ 512 + 512 * length ns = omega arith in
+    let on : 512 * i + 512 ≡ 512 * suc i = omega arith in
+    let behind : drop 512 (take (512 * length (n ∷ ns)) (drop (512 * i) image)) ≡ take (512 * length ns) (drop (512 * suc i) image) =
+    ap (λ k. drop 512 (take k (drop (512 * i) image))) more ∙ drop-take 512 (512 * length ns) (drop (512 * i) image)
+    ∙ ap (take (512 * length ns)) (drop-drop 512 (512 * i) image ∙ ap (λ k. drop k image) on) in
+    ap (λ p. (n, p) ∷ paired 512 ns (drop 512 (take (512 * length (n ∷ ns)) (drop (512 * i) image)))) (page_front image i (512 * length (n ∷ ns)) (omega (arith, more)))
+    ∙ ap (λ xs. (n, page image i) ∷ paired 512 ns xs) behind
+    ∙ ap (λ es. (n, page image i) ∷ es) (images_read image (suc i) ns)
+
+-- the journal by the numbers of its header
+pub journal_by : (image header numbers : List ℕ) → header ≡ page image 4 → numbers ≡ named header → images_from image 5 numbers ≡ journal_of image
+unfolding journal_of
+journal_by image header numbers is are = ap (images_from image 5) (are ∙ ap named is)
+
+-- what was read behind the header, of a buffer that was lent and taken back
+pub behind_header : (first read rest more : List ℕ) (count whole : ℕ) → length first ≡ 512 → length read ≡ count → whole ≡ 512 + count
+    → drop 512 (take whole (first ++ (read ++ rest) ++ more)) ≡ read
+behind_header first read rest more count whole page long is =
+    ap (λ k. drop 512 (take k (first ++ (read ++ rest) ++ more))) is
+    ∙ drop-take 512 count (first ++ (read ++ rest) ++ more)
+    ∙ ap (λ xs. take count (drop 512 xs)) (append_assoc first (read ++ rest) more)
+    ∙ ap (take count) (drop_at first ((read ++ rest) ++ more) 512 page ∙ append_assoc read rest more)
+    ∙ take_at read (rest ++ more) count long

@@ -1,0 +1,103 @@
+-- The runs of device calls that a commit and a settling make.
+use Rattle.std.proofs.Common.{◌≡◌, inl, ℕ, suc, ◌+◌, ◌*◌, ◌<◌, ◌≤◌, ◌==◌, Bool, true, false, List, [], ◌∷◌, ◌++◌, length, refl, ap, sym, ◌∙◌, subst, arith}
+use Rattle.std.specs.Map.{keys_of}
+use Rattle.spb_edge.specs.Crash.{Torn, Within, Elapses, LeavesOnly}
+use Rattle.spb_edge.specs.Disk.{laid}
+use Rattle.spb_edge.specs.Moments.{started, goes_on, weaker, joined}
+use Rattle.spb_edge.specs.Quiet.{IsQuiet, calmly}
+use Rattle.spb_edge.specs.Tears.{torn-laid}
+use Rattle.redo_journal.specs.Pages.{page}
+use Rattle.redo_journal.specs.Redo.{is_open, HasHome, DiffersWithin}
+use Rattle.redo_journal.specs.Header.{header_page, AreHomes}
+use Rattle.redo_journal.specs.Change.{StagedPages, IsSound, ArePlaced, Holds, Commits, IsLeftBy, joined_images}
+use Rattle.redo_journal.proofs.Pages.{torn_size}
+use Rattle.redo_journal.proofs.Commit.{gate_torn, gate_opens, body_torn, body_laid, IsWritten, written_still, opened_home}
+use Rattle.redo_journal.proofs.Settle.{differs_home, gate_closes, gate_laid}
+
+module _ {D : Type 0} (moment : D → ℕ) (left_since : D → ℕ → List ℕ → Type 0) (image : D → List ℕ) (may_leave : D → List ℕ → Type 0)
+    (total : ℕ) (es : List (ℕ × List ℕ)) (marks : List ℕ) (home : ℕ → List ℕ) where
+  -- the pages went home, and were synced
+  pub settled_so_far : (start written synced : D) → AreHomes total 0 (keys_of es) → Holds es (image start) → HasHome total (image start) marks home
+      → LeavesOnly moment left_since start written (DiffersWithin total (keys_of es) (image start))
+      → ((c : List ℕ) → may_leave written c → DiffersWithin total (keys_of es) (image start) c)
+      → Elapses (moment written) (moment synced) (left_since written) (left_since synced) (may_leave synced) → Within (may_leave written) (may_leave synced)
+      → LeavesOnly moment left_since start synced (λ c. HasHome total c marks home)
+  settled_so_far start written synced homes holds stands run crash time within =
+      let as_home : (c : List ℕ) → DiffersWithin total (keys_of es) (image start) c → HasHome total c marks home =
+      λ c differs. differs_home total es (image start) c stands.least homes holds differs marks home stands in
+      goes_on moment left_since start written synced (λ c. HasHome total c marks home) (may_leave synced)
+      (weaker moment left_since start written (DiffersWithin total (keys_of es) (image start)) (λ c. HasHome total c marks home) as_home run) time
+      (λ c now. as_home c (crash c (within c now)))
+
+  -- and the gate was written behind them
+  pub settled : (start synced now : D) → AreHomes total 0 (keys_of es) → Holds es (image start) → HasHome total (image start) marks home → LeavesOnly moment left_since start synced (λ c. HasHome total c marks home)
+      → ArePlaced es (image synced) → DiffersWithin total (keys_of es) (image start) (image synced)
+      → LeavesOnly moment left_since synced now (Torn 16 1 (image synced)) → LeavesOnly moment left_since start now (λ c. HasHome total c marks home)
+  settled start synced now homes holds stands so_far placed differs run =
+      joined moment left_since start synced now (λ c. HasHome total c marks home) so_far
+      (weaker moment left_since synced now (Torn 16 1 (image synced)) (λ c. HasHome total c marks home)
+      (λ c torn. gate_closes total es (image start) (image synced) c marks home homes holds differs placed (gate_torn total (image synced) c stands.least (differs.size ∙ stands.size) torn) stands) run)
+
+  -- the body went into the journal
+  pub committed_so_far : (start written : D) → HasHome total (image start) marks home → is_open (image start) ≡ false → length es ≤ 80
+      → LeavesOnly moment left_since start written (Torn 2048 (512 * (1 + length es)) (image start)) → LeavesOnly moment left_since start written (IsLeftBy total es marks home)
+  committed_so_far start written stands closed few run =
+      weaker moment left_since start written (Torn 2048 (512 * (1 + length es)) (image start)) (IsLeftBy total es marks home)
+      (λ c torn. inl (body_torn total (length es) (image start) c marks home stands closed few torn).0) run
+
+  -- and the gate was written behind it
+  pub committed : (start written now : D) → LeavesOnly moment left_since start written (IsLeftBy total es marks home) → HasHome total (image written) marks home → is_open (image written) ≡ false
+      → IsWritten total es (image written) → LeavesOnly moment left_since written now (Torn 16 1 (image written)) → LeavesOnly moment left_since start now (IsLeftBy total es marks home)
+  committed start written now so_far stands closed is_written run =
+      joined moment left_since start written now (IsLeftBy total es marks home) so_far
+      (weaker moment left_since written now (Torn 16 1 (image written)) (IsLeftBy total es marks home) (λ c torn. gate_opens total es (image written) c marks home stands closed is_written torn) run)
+
+length-keys : (es : List (ℕ × List ℕ)) → length (keys_of es) ≡ length es
+length-keys [] = refl
+length-keys (e ∷ es) = ap suc (length-keys es)
+
+-- what a body that was laid leaves: the same home, the gate closed, and the change in the journal
+pub record HasBody (total : ℕ) (es : List (ℕ × List ℕ)) (old new : List ℕ) : Type 0 where
+  pub is_written : IsWritten total es new
+  pub header_is : page new 4 ≡ header_page (keys_of es)
+  pub size : length new ≡ length old
+  pub stands : (marks : List ℕ) (home : ℕ → List ℕ) → HasHome total old marks home → is_open old ≡ false → HasHome total new marks home × (is_open new ≡ false)
+
+pub has_body : (staged : StagedPages) (header body old new : List ℕ) → IsSound staged → 0 < length staged.pages → 85 ≤ staged.total → length old ≡ 512 * staged.total
+    → header ≡ header_page (keys_of staged.pages) → body ≡ header ++ joined_images staged.pages → length body ≡ 512 * (1 + length staged.pages) → new ≡ laid old 2048 body
+    → HasBody staged.total staged.pages old new
+has_body staged header body old new sound some least size header_is body_is long is =
+    let laid_all = body_laid staged.total staged.pages header old least sound.small size some sound.few (length-keys staged.pages) sound.homes sound.whole header_is (sym (ap length body_is) ∙ long) in
+    let same : laid old 2048 (header ++ joined_images staged.pages) ≡ new = ap (laid old 2048) (sym body_is) ∙ sym is in
+    let torn : Torn 2048 (512 * (1 + length staged.pages)) old new =
+    subst (Torn 2048 (512 * (1 + length staged.pages)) old) (sym is) (subst (λ (m : ℕ). Torn 2048 m old (laid old 2048 body)) long (torn-laid old 2048 body (omega (arith, least, size)))) in record {
+      is_written = subst (IsWritten staged.total staged.pages) same laid_all.0;
+      header_is = subst (λ (i : List ℕ). page i 4 ≡ header_page (keys_of staged.pages)) same laid_all.1;
+      size = torn_size 2048 (512 * (1 + length staged.pages)) old new torn (omega (arith, least, size, sound.few));
+      stands = λ marks home stands closed. body_torn staged.total (length staged.pages) old new marks home stands closed sound.few torn;
+    }
+
+-- the gate was laid over a body: the commit is done
+pub commits : (total : ℕ) (es : List (ℕ × List ℕ)) (old written new : List ℕ) → 85 ≤ total → length old ≡ 512 * total → HasBody total es old written
+    → new ≡ laid written 16 (1 ∷ []) → Commits total es old new
+commits total es old written new least size body is =
+    let gate = gate_laid total 1 written new least (body.size ∙ size) is in
+    let opened : is_open new ≡ true = ap (λ v. v == 1) gate.1 in
+    let still = written_still total es written new least gate.0 body.is_written in record {
+      holds = record { is_opened = opened; journal_is = still.journal_is };
+      header_is = gate.0.pages_are 4 (omega arith) (omega (arith, least)) ∙ body.header_is;
+      stands = λ marks home stands closed.
+          let then = body.stands marks home stands closed in
+          opened_home total es written new marks home then.0 then.1 body.is_written gate.0 opened;
+    }
+
+-- a sync and then reads: what a crash may leave is what it might have left before
+pub read_so_far : {D : Type 0} (told tells_crashes : D → Bool) (size_of : D → ℕ) (image : D → List ℕ) (may_leave : D → List ℕ → Type 0) (moment : D → ℕ)
+    (left_since : D → ℕ → List ℕ → Type 0) (start synced found : D) (P : List ℕ → Type 0) → ((c : List ℕ) → may_leave start c → P c)
+    → Within (may_leave start) (left_since start (moment start))
+    → Elapses (moment start) (moment synced) (left_since start) (left_since synced) (may_leave synced) → Within (may_leave start) (may_leave synced)
+    → IsQuiet told tells_crashes size_of image may_leave moment left_since synced found → LeavesOnly moment left_since start found P
+read_so_far told tells_crashes size_of image may_leave moment left_since start synced found P has only_now time within quiet =
+    calmly told tells_crashes size_of image may_leave moment left_since start synced found P
+    (goes_on moment left_since start start synced P (may_leave synced) (started moment left_since start P (λ c left. has c (only_now c left))) time (λ c now. has c (within c now)))
+    quiet (λ c now. has c (within c now))

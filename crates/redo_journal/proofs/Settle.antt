@@ -1,0 +1,198 @@
+-- What stands on the disk while the pages of a change go home.
+use Rattle.std.proofs.Common.{◌≡◌, ◌⊎◌, inl, inr, ⊎_elim, ℕ, suc, ◌+◌, ◌*◌, ◌<◌, ◌≤◌, ◌==◌, ◌||◌, Bool, true, false, cond, Option, Some, List, [], ◌∷◌, ◌++◌, length, take, drop, refl, sym, ◌∙◌, ap, subst, arith}
+use Rattle.std.specs.Map.{keys_of, lookup}
+use Rattle.std.proofs.lemmas.Bool.{false≢true, cases_lt}
+use Rattle.std.proofs.lemmas.Bool.Decides.{nat_tests}
+use Rattle.spb_edge.specs.Crash.{Torn}
+use Rattle.spb_edge.specs.Disk.{laid}
+use Rattle.spb_edge.specs.Tears.{torn-laid}
+use Rattle.std.proofs.Math.Seq.{take-append-add}
+use Rattle.std.proofs.lemmas.List.{length-take-le}
+use Rattle.redo_journal.specs.Pages.{page, gate}
+use Rattle.redo_journal.specs.Header.{named, IsHeader, AreHomes}
+use Rattle.redo_journal.specs.Redo.{is_open, images_from, journal_of, over, replaced_by, redo_page, HasHome, is_among, DiffersWithin}
+use Rattle.redo_journal.specs.Change.{ArePlaced, Holds, IsRedone}
+use Rattle.redo_journal.proofs.Pages.{laid_page, laid_gate, torn_size, torn_page, gate_same, magic_same, byte_same}
+use Rattle.redo_journal.proofs.Home.{survives, not_among, journal_same, redo_opened, redo_closed, home_positive, home_within}
+use Rattle.redo_journal.proofs.Commit.{GateAlone, gate_torn}
+
+apart : (m n : ℕ) (numbers : List ℕ) → is_among m numbers ≡ false → is_among n numbers ≡ true → m ≡ n → ⊥
+apart m n numbers free among is = false≢true (sym free ∙ ap (λ k. is_among k numbers) is ∙ among)
+
+-- a page of the change goes home: what was alike elsewhere stays alike
+pub page_goes_home : (total n : ℕ) (numbers start old c : List ℕ) → n < total → length start ≡ 512 * total → is_among n numbers ≡ true
+    → DiffersWithin total numbers start old → Torn (512 * n) 512 old c → DiffersWithin total numbers start c
+page_goes_home total n numbers start old c within long among so_far torn =
+    let size : length old ≡ 512 * total = so_far.size ∙ long in record {
+      size = torn_size (512 * n) 512 old c torn (omega (arith, size, within)) ∙ so_far.size;
+      pages_are = λ m lt free. torn_page (512 * n) 512 old c torn m (omega (arith, lt, size)) (beside m (apart m n numbers free among)) ∙ so_far.pages_are m lt free;
+    }
+  where
+    beside : (m : ℕ) → (m ≡ n → ⊥) → (512 * m + 512 ≤ 512 * n) ⊎ (512 * n + 512 ≤ 512 * m)
+    beside m other = ⊎_elim (λ lt. inl (omega (arith, lt))) (λ ge. ⊎_elim (λ lt. inr (omega (arith, lt))) (λ le. absurd (other (omega (arith, ge, le)))) (cases_lt n m)) (cases_lt m n)
+
+pub differs_none : (total : ℕ) (numbers image : List ℕ) → DiffersWithin total numbers image image
+differs_none total numbers image = record { size = refl; pages_are = λ n lt free. refl }
+
+-- the entry at a place: its number is among those of all, and those before it are lower
+among_middle : (before after : List (ℕ × List ℕ)) (n : ℕ) (p : List ℕ) → is_among n (keys_of (before ++ (n, p) ∷ after)) ≡ true
+among_middle [] after n p = here n (is_among n (keys_of after))
+  where
+    here : (n : ℕ) (b : Bool) → ((n == n) || b) ≡ true
+    here n b = grind (arith, nat_tests)
+among_middle (e ∷ before) after n p = any_way (e.0 == n) (is_among n (keys_of (before ++ (n, p) ∷ after))) (among_middle before after n p)
+  where
+    any_way : (a b : Bool) → b ≡ true → (a || b) ≡ true
+    any_way true b is = refl
+    any_way false b is = is
+
+pub among : (es before after : List (ℕ × List ℕ)) (n : ℕ) (p : List ℕ) → es ≡ before ++ (n, p) ∷ after → is_among n (keys_of es) ≡ true
+among es before after n p is = ap (λ l. is_among n (keys_of l)) is ∙ among_middle before after n p
+
+-- all numbers are below this one
+abbrev pub AreBelow : ℕ → List (ℕ × List ℕ) → Type 0
+AreBelow n [] = Unit {0}
+AreBelow n (e ∷ es) = (e.0 < n) × AreBelow n es
+
+first_below : (total last n : ℕ) (p : List ℕ) (before after : List (ℕ × List ℕ)) → AreHomes total last (keys_of (before ++ (n, p) ∷ after)) → last < n
+first_below total last n p [] after homes = homes.1
+first_below total last n p (e ∷ before) after homes = omega (arith, homes.1, first_below total e.0 n p before after homes.2)
+
+before_below : (total last n : ℕ) (p : List ℕ) (before after : List (ℕ × List ℕ)) → AreHomes total last (keys_of (before ++ (n, p) ∷ after)) → AreBelow n before
+before_below total last n p [] after homes = tt
+before_below total last n p (e ∷ before) after homes = (first_below total e.0 n p before after homes.2, before_below total e.0 n p before after homes.2)
+
+-- the pages that are home stay there when the next one goes home
+placed_kept : (n : ℕ) (es : List (ℕ × List ℕ)) (old new : List ℕ) → AreBelow n es → 512 * n + 512 ≤ length old → Torn (512 * n) 512 old new → ArePlaced es old → ArePlaced es new
+placed_kept n [] old new below within torn placed = tt
+placed_kept n (e ∷ es) old new below within torn placed =
+    (torn_page (512 * n) 512 old new torn e.0 (omega (arith, below.0, within)) (inl (omega (arith, below.0))) ∙ placed.0, placed_kept n es old new below.1 within torn placed.1)
+
+placed_push : (es : List (ℕ × List ℕ)) (n : ℕ) (p image : List ℕ) → ArePlaced es image → page image n ≡ p → ArePlaced (es ++ (n, p) ∷ []) image
+placed_push [] n p image placed is = (is, tt)
+placed_push (e ∷ es) n p image placed is = (placed.0, placed_push es n p image placed.1 is)
+
+pub placed_on : (total n : ℕ) (p : List ℕ) (es before after : List (ℕ × List ℕ)) (old new : List ℕ) → es ≡ before ++ (n, p) ∷ after → AreHomes total 0 (keys_of es)
+    → 512 * n + 512 ≤ length old → Torn (512 * n) 512 old new → page new n ≡ p → ArePlaced before old → ArePlaced (before ++ (n, p) ∷ []) new
+placed_on total n p es before after old new is homes within torn there placed =
+    placed_push before n p new (placed_kept n before old new (before_below total 0 n p before after (subst (λ l. AreHomes total 0 (keys_of l)) is homes)) within torn placed) there
+
+-- where all pages are home, each page is as the recovery would have it
+over_placed : (b : Bool) (found : Option (List ℕ)) (p f here : List ℕ) (among : Bool) → (b ≡ true → here ≡ p) → ((b || among) ≡ false → here ≡ f)
+    → ((among ≡ false → here ≡ f) → here ≡ replaced_by found f) → here ≡ replaced_by (cond b (Some p) found) f
+over_placed true found p f here among is same rest = is refl
+over_placed false found p f here among is same rest = rest same
+
+pub placed_over : (es : List (ℕ × List ℕ)) (image : List ℕ) (f : ℕ → List ℕ) (n : ℕ) → ArePlaced es image → (is_among n (keys_of es) ≡ false → page image n ≡ f n) → page image n ≡ over es f n
+placed_over [] image f n placed same = same refl
+placed_over (e ∷ es) image f n placed same =
+    over_placed (e.0 == n) (lookup (λ m. m == n) es) e.1 (f n) (page image n) (is_among n (keys_of es))
+    (λ is. ap (page image) (sym (same_number e.0 n is)) ∙ placed.0) same (λ rest. placed_over es image f n placed.1 rest)
+  where
+    same_number : (m k : ℕ) → (m == k) ≡ true → m ≡ k
+    same_number m k is = grind (arith, nat_tests)
+
+-- the keys of a journal are the numbers of its header
+keys-images : (image : List ℕ) (i : ℕ) (ns : List ℕ) → keys_of (images_from image i ns) ≡ ns
+keys-images image i [] = refl
+keys-images image i (n ∷ ns) = ap (λ ks. n ∷ ks) (keys-images image (suc i) ns)
+
+pub keys-journal : (image : List ℕ) → keys_of (journal_of image) ≡ named (page image 4)
+unfolding journal_of
+keys-journal image = keys-images image 5 (named (page image 4))
+
+-- an image with its gate open, and one that differs only within the pages of its journal
+module _ (total : ℕ) (es : List (ℕ × List ℕ)) (start now : List ℕ) (least : 85 ≤ total) (homes : AreHomes total 0 (keys_of es)) (holds : Holds es start)
+    (differs : DiffersWithin total (keys_of es) start now) where
+  same_mark : page now 0 ≡ page start 0
+  same_mark = differs.pages_are 0 (omega (arith, least)) (not_among total 0 0 (keys_of es) homes (inl refl))
+
+  still_open : is_open now ≡ true
+  still_open = ap (λ g. g == 1) (gate_same start now same_mark) ∙ holds.is_opened
+
+  -- stands for the same
+  pub differs_home : (marks : List ℕ) (home : ℕ → List ℕ) → HasHome total start marks home → HasHome total now marks home
+  differs_home marks home stands =
+      survives total start now marks home stands holds.is_opened
+      (subst (λ (ns : List ℕ). DiffersWithin total ns start now) (sym (ap keys_of holds.journal_is) ∙ keys-journal start) differs)
+
+  -- and where all pages are home, each is as the recovery would have it
+  pub placed_redone : ArePlaced es now → (n : ℕ) → n < total → page now n ≡ redo_page start n
+  placed_redone placed n lt =
+      placed_over es now (page start) n placed (λ free. differs.pages_are n lt free)
+      ∙ ap (λ l. over l (page start) n) (sym holds.journal_is)
+      ∙ sym (redo_opened start n holds.is_opened)
+
+  -- with the gate closed behind them
+  pub closed_redone : (c : List ℕ) → ArePlaced es now → GateAlone total now c → is_open c ≡ false → IsRedone total start c
+  closed_redone c placed alone closed = record {
+    size = alone.size ∙ differs.size;
+    closed = closed;
+    mark_is = λ k lt other. alone.mark_is k lt other ∙ byte_same start now k lt same_mark;
+    pages_are = λ n pos lt. alone.pages_are n pos lt ∙ placed_redone placed n lt;
+  }
+
+-- an image as the recovery leaves it stands for the same
+pub redone_home : (total : ℕ) (old new marks : List ℕ) (home : ℕ → List ℕ) → IsRedone total old new → HasHome total old marks home → HasHome total new marks home
+redone_home total old new marks home redone stands = record {
+  least = stands.least;
+  size = redone.size ∙ stands.size;
+  clean = λ opened. absurd (false≢true (sym redone.closed ∙ opened));
+  marks_are =
+      magic_same old new (omega (arith, stands.size, stands.least)) (omega (arith, redone.size)) (λ k lt. redone.mark_is k (omega (arith, lt)) (λ is. omega (arith, lt, is)))
+      ∙ stands.marks_are;
+  pages_are = λ n is. redo_closed new n redone.closed ∙ redone.pages_are n (home_positive total n is) (home_within total n stands.least is) ∙ stands.pages_are n is;
+}
+
+-- while the gate is open, the rest of the mark page is no matter
+open_alike : (total : ℕ) (now c marks : List ℕ) (home : ℕ → List ℕ) → GateAlone total now c → is_open now ≡ true → is_open c ≡ true → HasHome total now marks home → HasHome total c marks home
+open_alike total now c marks home alone opened opened_too stands =
+    let header = stands.clean opened in
+    let kept : (k : ℕ) → 4 ≤ k → k < 85 → page c k ≡ page now k = λ k low high. alone.pages_are k (omega (arith, low)) (omega (arith, high, stands.least)) in record {
+      least = stands.least;
+      size = alone.size ∙ stands.size;
+      clean = λ _. subst (IsHeader total) (sym (kept 4 (omega arith) (omega arith))) header;
+      marks_are = alone.magic_is ∙ stands.marks_are;
+      pages_are = λ n is.
+          redo_opened c n opened_too
+          ∙ ap (λ es. over es (page c) n) (journal_same now c header.count.1 kept)
+          ∙ ap (replaced_by (lookup (λ m. m == n) (journal_of now))) (alone.pages_are n (home_positive total n is) (home_within total n stands.least is))
+          ∙ sym (redo_opened now n opened)
+          ∙ stands.pages_are n is;
+    }
+
+-- while the gate is closed, the image stands for the same either way
+pub gate_closes : (total : ℕ) (es : List (ℕ × List ℕ)) (start now c marks : List ℕ) (home : ℕ → List ℕ) → AreHomes total 0 (keys_of es) → Holds es start
+    → DiffersWithin total (keys_of es) start now → ArePlaced es now → GateAlone total now c → HasHome total start marks home → HasHome total c marks home
+gate_closes total es start now c marks home homes holds differs placed alone stands = either (is_open c) refl
+  where
+    either : (b : Bool) → is_open c ≡ b → HasHome total c marks home
+    either false closed = redone_home total start c marks home (closed_redone total es start now stands.least homes holds differs c placed alone closed) stands
+    either true opened =
+        open_alike total now c marks home alone (still_open total es start now stands.least homes holds differs) opened (differs_home total es start now stands.least homes holds differs marks home stands)
+
+-- the gate was laid: nothing else changed
+pub gate_laid : (total value : ℕ) (old new : List ℕ) → 85 ≤ total → length old ≡ 512 * total → new ≡ laid old 16 (value ∷ []) → GateAlone total old new × (gate new ≡ value)
+gate_laid total value old new least long is = (
+  gate_torn total old new least long (subst (Torn 16 1 old) (sym is) (torn-laid old 16 (value ∷ []) (omega (arith, least, long)))),
+  ap gate is ∙ laid_gate old value (omega (arith, least, long)),
+)
+
+take_one : (place : ℕ) (es : List (ℕ × List ℕ)) (e : ℕ × List ℕ) → es ≡ take place es ++ e ∷ drop (place + 1) es → place ≤ length es → take (place + 1) es ≡ take place es ++ e ∷ []
+take_one place es e is le =
+    let at : place + 1 ≡ length (take place es) + 1 = omega (arith, length-take-le place es le) in
+    ap (take (place + 1)) is ∙ ap (λ k. take k (take place es ++ e ∷ drop (place + 1) es)) at ∙ take-append-add (take place es) (e ∷ drop (place + 1) es) 1
+
+-- the next page of the change was laid in its place
+pub goes_home : (total n place : ℕ) (p start old new : List ℕ) (es : List (ℕ × List ℕ)) → es ≡ take place es ++ (n, p) ∷ drop (place + 1) es → place < length es
+    → AreHomes total 0 (keys_of es) → n < total → length start ≡ 512 * total → length p ≡ 512 → new ≡ laid old (512 * n) p
+    → ArePlaced (take place es) old → DiffersWithin total (keys_of es) start old → ArePlaced (take (place + 1) es) new × DiffersWithin total (keys_of es) start new
+goes_home total n place p start old new es is more homes within long whole laid_is placed differs =
+    let size : length old ≡ 512 * total = differs.size ∙ long in
+    let torn : Torn (512 * n) 512 old new =
+    subst (Torn (512 * n) 512 old) (sym laid_is) (subst (λ (m : ℕ). Torn (512 * n) m old (laid old (512 * n) p)) whole (torn-laid old (512 * n) p (omega (arith, size, within)))) in
+    let there : page new n ≡ p = ap (λ i. page i n) laid_is ∙ laid_page old p n (omega (arith, size, within)) whole in (
+      subst (λ l. ArePlaced l new) (sym (take_one place es (n, p) is (omega (arith, more))))
+          (placed_on total n p es (take place es) (drop (place + 1) es) old new is homes (omega (arith, size, within)) torn there placed),
+      page_goes_home total n (keys_of es) start old new within long (among es (take place es) (drop (place + 1) es) n p is) differs torn,
+    )

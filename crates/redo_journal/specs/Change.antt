@@ -1,0 +1,121 @@
+-- A change on its way: the pages that are staged, and how they stand in the journal.
+use Rattle.std.specs.Prelude.{◌≡◌, ◌⊎◌, ℕ, ◌+◌, ◌*◌, ◌<◌, ◌≤◌, Bool, true, false, IsTrue, List, [], ◌∷◌, length, take, drop, slice_index, ◌==◌, None, IsSome, Result, Ok, Err}
+use Rattle.std.specs.List.{flat_map}
+use Rattle.std.specs.Map.{lookup, keys_of}
+use Rattle.std.specs.BTreeMap.{insert_entry}
+use Rattle.std.specs.Ordering.{nat_cmp}
+use Rattle.spb_edge.specs.Fault.{Rose}
+use Rattle.redo_journal.specs.declared.errors.StageError.{StageError}
+use Rattle.redo_journal.specs.declared.errors.RecoverError.{RecoverError}
+use Rattle.redo_journal.specs.declared.errors.RecoverError.TheVariants as recover
+use Rattle.redo_journal.specs.Pages.{page}
+use Rattle.redo_journal.specs.Header.{header_page, AreHomes, IsHeader, IsFirstBad}
+use Rattle.redo_journal.specs.Redo.{is_open, journal_of, redo_page, HasHome, over}
+
+-- the pages of a change by their numbers: bytes behind one another, a page each
+abbrev pub paired : ℕ → List ℕ → List ℕ → List (ℕ × List ℕ)
+paired size [] bytes = []
+paired size (n ∷ ns) bytes = (n, take size bytes) ∷ paired size ns (drop size bytes)
+
+-- each page has 512 bytes
+abbrev pub ArePages : List (ℕ × List ℕ) → Type 0
+ArePages [] = Unit {0}
+ArePages (e ∷ es) = (length e.1 ≡ 512) × ArePages es
+
+-- the images of a change, behind one another
+abbrev pub joined_images : List (ℕ × List ℕ) → List ℕ
+joined_images entries = flat_map (λ (e : ℕ × List ℕ). e.1) entries
+
+-- the pages with one more, or with another in the place of the one with its number
+abbrev pub with_page : List (ℕ × List ℕ) → ℕ → List ℕ → List (ℕ × List ℕ)
+with_page entries n page = insert_entry nat_cmp entries n page
+
+-- the numbers are homes and rise; each has its page behind the header's, and there is room for all
+pub record IsStaged (total : ℕ) (numbers body : List ℕ) (capacity : ℕ) : Type 0 where
+  pub small : total < 4294967296
+  pub homes : AreHomes total 0 numbers
+  pub few : length numbers ≤ 80
+  pub long : length body ≡ 512 * (1 + length numbers)
+  pub room : 41472 ≤ capacity
+
+-- the numbers don't fall
+abbrev pub IsRising : List ℕ → Type 0
+IsRising numbers = (i j : ℕ) → i ≤ j → j < length numbers → slice_index numbers i ≤ slice_index numbers j
+
+-- the number stands at this place
+abbrev pub IsAt : List ℕ → ℕ → ℕ → Type 0
+IsAt numbers n place = (place < length numbers) × (slice_index numbers place ≡ n)
+
+-- it stands nowhere, and belongs before this place
+abbrev pub IsBetween : List ℕ → ℕ → ℕ → Type 0
+IsBetween numbers n place = (place ≤ length numbers) × ((k : ℕ) → k < place → slice_index numbers k < n)
+    × ((k : ℕ) → place ≤ k → k < length numbers → n < slice_index numbers k)
+
+-- a change on its way: of a file of so many pages, its header's page, and its pages by their numbers
+pub record StagedPages : Type 0 where
+  pub total : ℕ
+  pub header : List ℕ
+  pub pages : List (ℕ × List ℕ)
+
+-- A page takes the place of the one with its number, or joins the others; it is refused where 80 others
+-- are staged, and nothing changes then.
+abbrev pub Stages : Result Unit StageError → List (ℕ × List ℕ) → ℕ → List ℕ → List (ℕ × List ℕ) → Type 0
+Stages (Ok _) old n page new = (new ≡ with_page old n page) × ((length old < 80) ⊎ IsSome (lookup (λ m. m == n) old))
+Stages (Err _) old n page new = (new ≡ old) × (length old ≡ 80) × (lookup (λ m. m == n) old ≡ None)
+
+-- what holds of every change on its way: at most 80 pages of 512 bytes, their numbers homes that rise
+pub record IsSound (staged : StagedPages) : Type 0 where
+  pub few : length staged.pages ≤ 80
+  pub homes : AreHomes staged.total 0 (keys_of staged.pages)
+  pub whole : ArePages staged.pages
+  pub small : staged.total < 4294967296
+
+-- the journal holds the change, and its gate is open
+pub record Holds (entries : List (ℕ × List ℕ)) (image : List ℕ) : Type 0 where
+  pub is_opened : is_open image ≡ true
+  pub journal_is : journal_of image ≡ entries
+
+-- each page of a change stands in its place
+abbrev pub ArePlaced : List (ℕ × List ℕ) → List ℕ → Type 0
+ArePlaced [] image = Unit {0}
+ArePlaced (e ∷ es) image = (page image e.0 ≡ e.1) × ArePlaced es image
+
+-- the image as a recovery leaves it: each page as redone, and of the mark page the gate alone is
+-- another, which is closed
+pub record IsRedone (total : ℕ) (old new : List ℕ) : Type 0 where
+  pub size : length new ≡ length old
+  pub closed : is_open new ≡ false
+  pub mark_is : (k : ℕ) → k < 512 → (k ≡ 16 → ⊥) → slice_index new k ≡ slice_index old k
+  pub pages_are : (n : ℕ) → 0 < n → n < total → page new n ≡ redo_page old n
+
+-- a commit that succeeded: the journal holds the change, and whatever the image stood for, it now
+-- stands for the pages with the change
+pub record Commits (total : ℕ) (entries : List (ℕ × List ℕ)) (old new : List ℕ) : Type 0 where
+  pub holds : Holds entries new
+  pub header_is : page new 4 ≡ header_page (keys_of entries)
+  pub stands : (marks : List ℕ) (home : ℕ → List ℕ) → HasHome total old marks home → is_open old ≡ false → HasHome total new marks (over entries home)
+
+-- an image that stands for the pages without a change or with all of it
+abbrev pub IsLeftBy : ℕ → List (ℕ × List ℕ) → List ℕ → (ℕ → List ℕ) → List ℕ → Type 0
+IsLeftBy total entries marks home image = HasHome total image marks home ⊎ HasHome total image marks (over entries home)
+
+-- what a reading of the gate, the header and the images found: a change or none, or a header whose first
+-- field out of its range is named
+abbrev pub Finds : ℕ → Result Bool RecoverError → List ℕ → List (ℕ × List ℕ) → Type 0
+Finds total (Ok false) image pages = (is_open image ≡ false) × (pages ≡ [])
+Finds total (Ok true) image pages = (is_open image ≡ true) × IsHeader total (page image 4) × (pages ≡ journal_of image)
+Finds total (Err recover.DiskFault) image pages = Unit {0}
+Finds total (Err (recover.BadHeader field)) image pages = (is_open image ≡ true) × IsFirstBad total (page image 4) field
+
+-- what a recovery leaves: the image as redone, or as it was where the gate is open over a header whose
+-- first field out of its range is named
+abbrev pub Recovers : ℕ → Result Unit RecoverError → List ℕ → List ℕ → Type 0
+Recovers total (Ok _) old new = (IsTrue (is_open old) → IsHeader total (page old 4)) × IsRedone total old new
+Recovers total (Err recover.DiskFault) old new = Unit {0}
+Recovers total (Err (recover.BadHeader field)) old new = (is_open old ≡ true) × IsFirstBad total (page old 4) field × (new ≡ old)
+
+-- a fault is answered only where it was counted
+abbrev pub IsCountedFault : {A : Type 0} → Result A RecoverError → ℕ → ℕ → Type 0
+IsCountedFault (Ok _) before now = before ≤ now
+IsCountedFault (Err recover.DiskFault) before now = (before ≤ now) × Rose before now
+IsCountedFault (Err (recover.BadHeader field)) before now = before ≤ now

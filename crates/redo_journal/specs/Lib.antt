@@ -1,0 +1,5 @@
+pub mod Pages
+pub mod Header
+pub mod Redo
+pub mod Change
+pub mod Journal

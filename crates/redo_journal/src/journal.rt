@@ -1,0 +1,226 @@
+//! A journal with a gate over a disk.
+ghost use Rattle.std.specs.Prelude.{◌≡◌, ◌*◌, ◌<◌, ◌≤◌, [], List, ℕ, false, IsTrue, OnOk, IfOk, IfErr, length};
+ghost use Rattle.spb_edge.specs.Fault.{IsCounted, counted};
+ghost use Rattle.spb_edge.specs.Crash.{Only, LeavesOnly};
+ghost use Rattle.redo_journal.specs.Pages.{page, IsHome};
+ghost use Rattle.redo_journal.specs.Header.{named};
+ghost use Rattle.redo_journal.specs.Redo.{is_open, HasHome, DiffersWithin};
+ghost use Rattle.redo_journal.specs.Change.{Stages, Holds, Commits, IsLeftBy, IsRedone, Recovers, IsCountedFault};
+
+use crate::header::PAGE;
+use crate::moves::{commit_staged, settle_staged};
+use crate::recovery::{read_page, recover_staged};
+use crate::staged::Staged;
+use crate::{DiskFault, RecoverError, StageError};
+use spb_edge::{Disk, Memory};
+use std::alloc::Global;
+
+/// A page file in which a change of up to 80 pages happens whole or not at all.
+///
+/// The file is a row of pages of 512 bytes. Page 0 holds the gate, page 4 the journal's header and pages
+/// 5 to 84 its images; a change may replace the pages 1 to 3 and those from 85 on. A change is staged
+/// page by page, [committed](Journal::commit) into the journal, and [settled](Journal::settle) from
+/// there. From the end of the commit on it has happened, whatever moment the machine stops at: who opens
+/// the file then calls [`recover`](Journal::recover) first.
+///
+/// It keeps the reference that it was made with, and hands it back by
+/// [`into_inner`](Journal::into_inner). Dropping it makes no device call. What the calls say of the
+/// disk's bytes, they say of disks that tell them.
+#[derive(Drop)]
+pub struct Journal<'a, D: Disk> {
+    disk: &'a mut D,
+    staged: Staged,
+}
+
+impl<'a, D: Disk> Journal<'a, D> {
+    ghost use Rattle.redo_journal.specs.Journal.{disk_of, total_of, staged_of, HasPages};
+
+    /// A journal over a disk of `total` whole pages, at least 85, with no page staged. It takes the room
+    /// for a change here, 81 pages, so that no later call takes memory. No device call is made.
+    pub fn new(alloc: Global, disk: &'a mut D, total: u32) -> Result<Self, Memory>
+        requires least { 85 ≤ total }
+        requires size { D.size_of disk.old ≡ 512 * total }
+        ensures pages { IfOk result (λ journal. HasPages D.size_of journal) }
+        ensures none { IfOk result (λ journal. staged_of journal ≡ []) }
+        ensures total { IfOk result (λ journal. total_of journal ≡ total) }
+        ensures name { IfOk result (λ journal. journal.disk.ghost_name ≡ disk.entry.ghost_name) }
+        ensures at { IfOk result (λ journal. disk_of journal ≡ disk.old) }
+    {
+        match Journal::new_or_back(alloc, disk, total) {
+            Ok(journal) => Ok(journal),
+            Err(back) => {
+                let (memory, _disk) = back;
+                Err(memory)
+            }
+        }
+    }
+
+    /// As [`new`](Journal::new), but where memory is short it hands the disk back, so that a caller's
+    /// contract can go on to speak of it.
+    pub fn new_or_back(
+        alloc: Global,
+        disk: &'a mut D,
+        total: u32,
+    ) -> Result<Self, (Memory, &'a mut D)>
+        requires least { 85 ≤ total }
+        requires size { D.size_of disk.old ≡ 512 * total }
+        ensures pages { IfOk result (λ journal. HasPages D.size_of journal) }
+        ensures none { IfOk result (λ journal. staged_of journal ≡ []) }
+        ensures total { IfOk result (λ journal. total_of journal ≡ total) }
+        ensures name { IfOk result (λ journal. journal.disk.ghost_name ≡ disk.entry.ghost_name) }
+        ensures at { IfOk result (λ journal. disk_of journal ≡ disk.old) }
+        ensures back { IfErr result (λ back. (back.1.now ≡ disk.old) × (back.1.ghost_name ≡ disk.entry.ghost_name)) }
+    {
+        match Staged::new(alloc, total) {
+            Ok(staged) => Ok(Journal { disk, staged }),
+            Err(memory) => Err((memory, disk)),
+        }
+    }
+
+    /// Hands back the reference that the journal was made with. No device call is made.
+    pub fn into_inner(self) -> &'a mut D
+        ensures name { result.ghost_name ≡ self.entry.disk.ghost_name }
+        ensures disk { result.now ≡ disk_of self.entry }
+    {
+        self.disk
+    }
+
+    /// Finishes the change that the journal holds: each page is then as redone, and the gate is closed.
+    ///
+    /// No page may be staged. It syncs first. `BadHeader` comes exactly where the gate is open over a
+    /// header with a field out of its range, keeps the first such field, and nothing is written then.
+    /// `DiskFault` comes only where the disk counted a fault in this call; open the file again then. A
+    /// crash on the way, and a second recovery, change nothing of what the file stands for. A device
+    /// call to sync, one for the gate, and where it is open one for the header, one for the images, and
+    /// those of [`settle`](Journal::settle).
+    pub fn recover(&mut self) -> Result<(), RecoverError>
+        requires pages { HasPages D.size_of self.old }
+        requires none { staged_of self.old ≡ [] }
+        ensures recovers { IsTrue (D.told (disk_of self.old))
+            → Recovers (total_of self.old) result (D.image (disk_of self.old)) (D.image (disk_of self.new)) }
+        ensures any_moment { IsTrue (D.told (disk_of self.old)) → IsTrue (D.tells_crashes (disk_of self.old))
+            → Only (D.image (disk_of self.old)) (D.may_leave (disk_of self.old)) → (marks : List ℕ) (home : ℕ → List ℕ)
+            → HasHome (total_of self.old) (D.image (disk_of self.old)) marks home
+            → LeavesOnly D.moment D.left_since (disk_of self.old) (disk_of self.new) (λ c. HasHome (total_of self.old) c marks home) }
+        ensures kept { IsTrue (D.told (disk_of self.old)) → IsTrue (D.tells_crashes (disk_of self.old))
+            → OnOk result (Only (D.image (disk_of self.new)) (D.may_leave (disk_of self.new))) }
+        ensures cleared { OnOk result (staged_of self.new ≡ []) }
+        ensures pages { HasPages D.size_of self.new }
+        ensures total { total_of self.new ≡ total_of self.old }
+        ensures told { (D.told (disk_of self.new) ≡ D.told (disk_of self.old)) × (D.tells_crashes (disk_of self.new) ≡ D.tells_crashes (disk_of self.old)) }
+        ensures fault { IsCountedFault result (D.faults (disk_of self.old)) (D.faults (disk_of self.new)) }
+        ensures name { self.new.disk.ghost_name ≡ self.old.disk.ghost_name }
+    {
+        recover_staged(self.disk, &mut self.staged)
+    }
+
+    /// Page n of the disk, whatever is staged. n is below the number of pages. One device call, straight
+    /// into the caller's page. `DiskFault` comes only where the disk counted a fault in this call.
+    pub fn read_page(&mut self, n: u32, into: &mut [u8; 512]) -> Result<(), DiskFault>
+        requires pages { HasPages D.size_of self.old }
+        requires within { n < total_of self.old }
+        ensures data { IsTrue (D.told (disk_of self.old)) → OnOk result (into.new ≡ page (D.image (disk_of self.old)) n) }
+        ensures quiet { D.quiet (disk_of self.old) (disk_of self.new) }
+        ensures image { IsTrue (D.told (disk_of self.old)) → D.image (disk_of self.new) ≡ D.image (disk_of self.old) }
+        ensures reads { IsTrue (D.told (disk_of self.old)) → D.reads (disk_of self.new) ≡ counted (D.reads (disk_of self.old)) }
+        ensures staged { (staged_of self.new ≡ staged_of self.old) × (total_of self.new ≡ total_of self.old) }
+        ensures pages { HasPages D.size_of self.new }
+        ensures told { (D.told (disk_of self.new) ≡ D.told (disk_of self.old)) × (D.tells_crashes (disk_of self.new) ≡ D.tells_crashes (disk_of self.old)) }
+        ensures fault { IsCounted result (D.faults (disk_of self.old)) (D.faults (disk_of self.new)) }
+        ensures name { self.new.disk.ghost_name ≡ self.old.disk.ghost_name }
+    {
+        read_page(self.disk, n, into)
+    }
+
+    /// Stages a page: in the place of the one with its number, or as another one. n is 1 to 3, or from 85
+    /// on below the number of pages. `TooMany` comes exactly where 80 pages are staged and n is another;
+    /// nothing changes then. Pages that come in rising order of their numbers are copied once.
+    pub fn stage(&mut self, n: u32, page: &[u8; 512]) -> Result<(), StageError>
+        requires home { IsHome (total_of self.old) n }
+        ensures stages { Stages result (staged_of self.old) n page.now (staged_of self.new) }
+        ensures some { OnOk result (0 < length (staged_of self.new)) }
+        ensures total { total_of self.new ≡ total_of self.old }
+        ensures disk { disk_of self.new ≡ disk_of self.old }
+        ensures name { self.new.disk.ghost_name ≡ self.old.disk.ghost_name }
+    {
+        self.staged.stage(n, page)
+    }
+
+    /// Takes out all pages that are staged. The disk stays as it is.
+    pub fn clear(&mut self)
+        ensures none { staged_of self.new ≡ [] }
+        ensures total { total_of self.new ≡ total_of self.old }
+        ensures disk { disk_of self.new ≡ disk_of self.old }
+        ensures name { self.new.disk.ghost_name ≡ self.old.disk.ghost_name }
+    {
+        self.staged.clear();
+    }
+
+    /// Writes the staged pages, at least one, into the journal, and opens its gate: from Ok on the change
+    /// has happened.
+    ///
+    /// Where the gate was closed and nothing was pending, a crash on the way leaves an image that stands
+    /// for the pages without the change or with all of it. `DiskFault` comes only where the disk counted
+    /// a fault in this call; open the file again then. Four device calls, and all pages in one of them.
+    pub fn commit(&mut self) -> Result<(), DiskFault>
+        requires pages { HasPages D.size_of self.old }
+        requires some { 0 < length (staged_of self.old) }
+        ensures commits { IsTrue (D.told (disk_of self.old))
+            → OnOk result (Commits (total_of self.old) (staged_of self.old) (D.image (disk_of self.old)) (D.image (disk_of self.new))) }
+        ensures any_moment { IsTrue (D.told (disk_of self.old)) → IsTrue (D.tells_crashes (disk_of self.old))
+            → Only (D.image (disk_of self.old)) (D.may_leave (disk_of self.old)) → (marks : List ℕ) (home : ℕ → List ℕ)
+            → HasHome (total_of self.old) (D.image (disk_of self.old)) marks home → is_open (D.image (disk_of self.old)) ≡ false
+            → LeavesOnly D.moment D.left_since (disk_of self.old) (disk_of self.new) (IsLeftBy (total_of self.old) (staged_of self.old) marks home) }
+        ensures kept { IsTrue (D.told (disk_of self.old)) → IsTrue (D.tells_crashes (disk_of self.old))
+            → OnOk result (Only (D.image (disk_of self.new)) (D.may_leave (disk_of self.new))) }
+        ensures staged { (staged_of self.new ≡ staged_of self.old) × (total_of self.new ≡ total_of self.old) }
+        ensures pages { HasPages D.size_of self.new }
+        ensures reads { IsTrue (D.told (disk_of self.old)) → D.reads (disk_of self.new) ≡ D.reads (disk_of self.old) }
+        ensures told { (D.told (disk_of self.new) ≡ D.told (disk_of self.old)) × (D.tells_crashes (disk_of self.new) ≡ D.tells_crashes (disk_of self.old)) }
+        ensures fault { IsCounted result (D.faults (disk_of self.old)) (D.faults (disk_of self.new)) }
+        ensures name { self.new.disk.ghost_name ≡ self.old.disk.ghost_name }
+    {
+        commit_staged(self.disk, &mut self.staged)
+    }
+
+    /// Writes each staged page to its place, in rising order, closes the gate, and takes the pages out.
+    ///
+    /// It follows a commit that answered Ok. What the file stands for stays the same, whatever moment a
+    /// crash comes at. `DiskFault` comes only where the disk counted a fault in this call; open the file
+    /// again then. A device call for each page, and three more.
+    pub fn settle(&mut self) -> Result<(), DiskFault>
+        requires pages { HasPages D.size_of self.old }
+        ensures settles { IsTrue (D.told (disk_of self.old)) → Holds (staged_of self.old) (D.image (disk_of self.old))
+            → OnOk result (IsRedone (total_of self.old) (D.image (disk_of self.old)) (D.image (disk_of self.new))) }
+        ensures home { IsTrue (D.told (disk_of self.old)) → Holds (staged_of self.old) (D.image (disk_of self.old)) → (marks : List ℕ) (home : ℕ → List ℕ)
+            → HasHome (total_of self.old) (D.image (disk_of self.old)) marks home → OnOk result (HasHome (total_of self.old) (D.image (disk_of self.new)) marks home) }
+        ensures any_moment { IsTrue (D.told (disk_of self.old)) → IsTrue (D.tells_crashes (disk_of self.old))
+            → Only (D.image (disk_of self.old)) (D.may_leave (disk_of self.old)) → Holds (staged_of self.old) (D.image (disk_of self.old))
+            → (marks : List ℕ) (home : ℕ → List ℕ) → HasHome (total_of self.old) (D.image (disk_of self.old)) marks home
+            → LeavesOnly D.moment D.left_since (disk_of self.old) (disk_of self.new) (λ c. HasHome (total_of self.old) c marks home) }
+        ensures kept { IsTrue (D.told (disk_of self.old)) → IsTrue (D.tells_crashes (disk_of self.old))
+            → OnOk result (Only (D.image (disk_of self.new)) (D.may_leave (disk_of self.new))) }
+        ensures cleared { OnOk result (staged_of self.new ≡ []) }
+        ensures total { total_of self.new ≡ total_of self.old }
+        ensures pages { HasPages D.size_of self.new }
+        ensures reads { IsTrue (D.told (disk_of self.old)) → D.reads (disk_of self.new) ≡ D.reads (disk_of self.old) }
+        ensures told { (D.told (disk_of self.new) ≡ D.told (disk_of self.old)) × (D.tells_crashes (disk_of self.new) ≡ D.tells_crashes (disk_of self.old)) }
+        ensures fault { IsCounted result (D.faults (disk_of self.old)) (D.faults (disk_of self.new)) }
+        ensures name { self.new.disk.ghost_name ≡ self.old.disk.ghost_name }
+    {
+        settle_staged(self.disk, &mut self.staged)
+    }
+}
+
+/// What a file stands for survives its pages going home, as a contract: where the gate is open over a
+/// header in its ranges, an image that differs at most within the pages that the header names stands for
+/// the same. The call does nothing.
+pub fn home_survives()
+    ensures { (total : ℕ) (image other marks : List ℕ) (home : ℕ → List ℕ) → HasHome total image marks home → IsTrue (is_open image)
+        → DiffersWithin total (named (page image 4)) image other → HasHome total other marks home }
+{}
+
+/// An image as a recovery leaves it stands for what it stood for, as a contract. The call does nothing.
+pub fn home_is_redone()
+    ensures { (total : ℕ) (old new marks : List ℕ) (home : ℕ → List ℕ) → IsRedone total old new → HasHome total old marks home → HasHome total new marks home }
+{}

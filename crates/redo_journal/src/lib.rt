@@ -1,0 +1,20 @@
+//! A page file in which a change of up to 80 pages happens whole or not at all, whatever moment the
+//! machine stops at.
+//!
+//! A change is written into the journal first. A gate byte then says that the journal holds it, and
+//! only then do the pages go to their places. Who opens the file later finishes what the gate says.
+#![tactic(auto)]
+
+mod device;
+mod errors;
+mod header;
+mod journal;
+mod moves;
+mod recovery;
+mod staged;
+
+pub use errors::{DiskFault, Field, RecoverError, StageError};
+pub use journal::{Journal, home_is_redone, home_survives};
+
+#[cfg(test)]
+mod tests;

@@ -1,0 +1,211 @@
+//! The pages of a change on its way to the disk.
+ghost use Rattle.std.specs.Prelude.{◌≡◌, ◌+◌, ◌*◌, ◌<◌, ◌≤◌, [], ◌∷◌, ◌++◌, IsTrue, IfOk, OnOk, MatchResult, length, take, drop, vec_len, vec_capacity};
+ghost use Rattle.std.specs.Map.{keys_of};
+ghost use Rattle.redo_journal.specs.Pages.{IsHome};
+ghost use Rattle.spb_edge.specs.Fault.{IsCounted};
+ghost use Rattle.redo_journal.specs.Header.{AreHomes, header_page};
+ghost use Rattle.redo_journal.specs.Redo.{images_from};
+ghost use Rattle.redo_journal.specs.Change.{StagedPages, IsSound, Stages, IsRising, IsAt, IsBetween, joined_images};
+
+use crate::device::read_piece;
+use crate::header::{MOST, Numbers, PAGE, header_of};
+use crate::{DiskFault, StageError};
+use arrayvec::ArrayVec;
+use spb_edge::{Disk, Memory};
+use std::alloc::Global;
+use std::marker::Model;
+
+/// Where the journal's images begin in the file.
+const IMAGES: u64 = 2560;
+
+/// The pages of a change in rising order of their numbers, behind a page of room for their header. All
+/// of its memory is taken when it is made.
+#[derive(Drop)]
+pub(crate) struct Staged {
+    total: u32,
+    numbers: Numbers,
+    body: Vec<u8>,
+}
+
+impl Model for Staged {
+    ghost use Rattle.std.specs.Prelude.{take, drop, vec_capacity};
+    ghost use Rattle.redo_journal.specs.Change.{StagedPages, IsStaged, paired};
+
+    ghost Value = { StagedPages };
+
+    ghost view = { λ s. record {
+      total = s.total;
+      header = take 512 s.body.items;
+      pages = paired 512 s.numbers.items (drop 512 s.body.items);
+    } };
+
+    ghost invariant = { λ s. IsStaged s.total s.numbers.items s.body.items (vec_capacity s.body) };
+}
+
+impl Staged {
+    /// No page, of a file of so many.
+    pub(crate) fn new(alloc: Global, total: u32) -> Result<Staged, Memory>
+        ensures { IfOk result (λ staged. (staged.pages ≡ []) × (staged.total ≡ total)) }
+    {
+        let mut body = Vec::with_capacity(alloc, (1 + MOST) * PAGE)?;
+        body.extend_from_slice(&[0; PAGE])?;
+        Ok(Staged {
+            total,
+            numbers: ArrayVec::new(),
+            body,
+        })
+    }
+
+    /// How many pages the file has.
+    pub(crate) fn total(&self) -> u32
+        ensures { result ≡ self.now.total }
+    {
+        self.total
+    }
+
+    /// How many pages are staged.
+    pub(crate) fn count(&self) -> usize
+        ensures count { result ≡ length self.now.pages }
+        ensures sound { IsSound self.now }
+    {
+        self.numbers.len()
+    }
+
+    /// Stages a page in the place of one with its number, or as another one.
+    pub(crate) fn stage(&mut self, n: u32, page: &[u8; PAGE]) -> Result<(), StageError>
+        requires { IsHome self.old.total n }
+        ensures stages { Stages result self.old.pages n page.now self.new.pages }
+        ensures total { self.new.total ≡ self.old.total }
+    {
+        match place_of(self.numbers.as_slice(), n) {
+            Ok(place) => {
+                replace_page(&mut self.body, place + 1, page);
+                Ok(())
+            }
+            Err(place) => {
+                if self.numbers.is_full() {
+                    return Err(StageError::TooMany);
+                }
+                self.numbers.insert(place, n);
+                insert_page(&mut self.body, place + 1, page);
+                Ok(())
+            }
+        }
+    }
+
+    /// Takes the journal's images of the pages of these numbers, in place of what is staged, from the
+    /// disk. One device call.
+    pub(crate) fn load<D: Disk>(&mut self, disk: &mut D, numbers: Numbers) -> Result<(), DiskFault>
+        requires homes { AreHomes self.old.total 0 numbers.items }
+        requires size { 43520 ≤ D.size_of disk.old }
+        ensures images { IsTrue (D.told disk.old) → OnOk result (self.new.pages ≡ images_from (D.image disk.old) 5 numbers.items) }
+        ensures total { self.new.total ≡ self.old.total }
+        ensures quiet { D.quiet disk.old disk.new }
+        ensures image { IsTrue (D.told disk.old) → D.image disk.new ≡ D.image disk.old }
+        ensures told { (D.told disk.new ≡ D.told disk.old) × (D.tells_crashes disk.new ≡ D.tells_crashes disk.old) }
+        ensures size { D.size_of disk.new ≡ D.size_of disk.old }
+        ensures fault { IsCounted result (D.faults disk.old) (D.faults disk.new) }
+    {
+        self.numbers = numbers;
+        read_images(disk, &mut self.body, self.numbers.len())
+    }
+
+    /// Takes all pages out.
+    pub(crate) fn clear(&mut self)
+        ensures none { self.new.pages ≡ [] }
+        ensures total { self.new.total ≡ self.old.total }
+    {
+        self.numbers.clear();
+        self.body.truncate(PAGE);
+    }
+
+    /// Writes the header of the pages.
+    pub(crate) fn seal(&mut self)
+        ensures same { self.new.pages ≡ self.old.pages }
+        ensures header { self.new.header ≡ header_page (keys_of self.old.pages) }
+        ensures total { self.new.total ≡ self.old.total }
+    {
+        let header = header_of(self.numbers.as_slice());
+        replace_page(&mut self.body, 0, &header);
+    }
+
+    /// The header and the pages, behind one another.
+    pub(crate) fn body(&self) -> &[u8]
+        ensures bytes { result.now ≡ self.now.header ++ joined_images self.now.pages }
+        ensures long { length result.now ≡ 512 * (1 + length self.now.pages) }
+        ensures sound { IsSound self.now }
+    {
+        &self.body
+    }
+
+    /// The number of the page at a place, and the page.
+    pub(crate) fn entry(&self, place: usize) -> (u32, &[u8])
+        requires { place < length self.now.pages }
+        ensures entry { self.now.pages ≡ take place self.now.pages ++ (result.0, result.1.now) ∷ drop (place + 1) self.now.pages }
+        ensures home { IsHome self.now.total result.0 }
+        ensures page { length result.1.now ≡ 512 }
+    {
+        let numbers = self.numbers.as_slice();
+        let at = (place + 1) * PAGE;
+        (numbers[place], &self.body[at..at + PAGE])
+    }
+}
+
+/// Reads so many of the journal's images behind the header's page. There is room for them.
+fn read_images<D: Disk>(disk: &mut D, body: &mut Vec<u8>, count: usize) -> Result<(), DiskFault>
+    requires few { count ≤ 80 }
+    requires header { 512 ≤ vec_len body.old }
+    requires room { 41472 ≤ vec_capacity body.old }
+    requires size { 43520 ≤ D.size_of disk.old }
+    ensures images { IsTrue (D.told disk.old) → OnOk result (drop 512 body.new.items ≡ take (512 * count) (drop 2560 (D.image disk.old))) }
+    ensures len { vec_len body.new ≡ 512 * (1 + count) }
+    ensures capacity { vec_capacity body.old ≤ vec_capacity body.new }
+    ensures quiet { D.quiet disk.old disk.new }
+    ensures image { IsTrue (D.told disk.old) → D.image disk.new ≡ D.image disk.old }
+    ensures told { (D.told disk.new ≡ D.told disk.old) × (D.tells_crashes disk.new ≡ D.tells_crashes disk.old) }
+    ensures size { D.size_of disk.new ≡ D.size_of disk.old }
+    ensures fault { IsCounted result (D.faults disk.old) (D.faults disk.new) }
+{
+    let Ok(()) = body.resize(PAGE * (1 + count), 0) else {
+        unreachable!()
+    };
+    read_piece(disk, IMAGES, &mut body[PAGE..])
+}
+
+/// Where a number stands among rising ones, or where it belongs.
+fn place_of(numbers: &[u32], n: u32) -> Result<usize, usize>
+    requires { IsRising numbers.now }
+    ensures { MatchResult result (IsAt numbers.now n) (IsBetween numbers.now n) }
+{
+    numbers.binary_search(&n)
+}
+
+/// Lays a page over the one at this place, from 0.
+fn replace_page(pages: &mut Vec<u8>, place: usize, page: &[u8; PAGE])
+    requires { 512 * place + 512 ≤ vec_len pages.old }
+    ensures items { pages.new.items ≡ take (512 * place) pages.old.items ++ (page.now ++ drop (512 * place + 512) pages.old.items) }
+    ensures len { vec_len pages.new ≡ vec_len pages.old }
+    ensures capacity { vec_capacity pages.old ≤ vec_capacity pages.new }
+{
+    let at = PAGE * place;
+    pages[at..at + PAGE].copy_from_slice(page);
+}
+
+/// Puts a page before the one at this place, from 0, or behind all of them. There is room for it.
+fn insert_page(pages: &mut Vec<u8>, place: usize, page: &[u8; PAGE])
+    requires place { 512 * place ≤ vec_len pages.old }
+    requires room { vec_len pages.old + 512 ≤ vec_capacity pages.old }
+    ensures items { pages.new.items ≡ take (512 * place) pages.old.items ++ (page.now ++ drop (512 * place) pages.old.items) }
+    ensures capacity { vec_capacity pages.old ≤ vec_capacity pages.new }
+{
+    let at = PAGE * place;
+    let end = pages.len();
+    let Ok(()) = pages.extend_from_slice(page) else {
+        unreachable!()
+    };
+    if at == end {
+        return;
+    }
+    pages.copy_within(at..end, at + PAGE);
+    pages[at..at + PAGE].copy_from_slice(page);
+}

@@ -1,0 +1,54 @@
+-- A quiet stretch: calls that leave a disk, and what a crash may leave of it, as they were.
+use Rattle.std.proofs.Common.{◌≡◌, inl, inr, ⊎_elim, ℕ, Bool, List, IsTrue, refl, sym, ◌∙◌, subst, arith}
+use Rattle.spb_edge.specs.Crash.{Within, Elapses, LeavesOnly}
+use Rattle.spb_edge.specs.Moments.{goes_on}
+
+module _ {D : Type 0} (told tells_crashes : D → Bool) (size_of : D → ℕ) (image : D → List ℕ)
+    (may_leave : D → List ℕ → Type 0) (moment : D → ℕ) (left_since : D → ℕ → List ℕ → Type 0) where
+  -- The length, the image where it is told, and the images that a crash may leave are the same; a crash
+  -- since the first state could leave no others; and time goes on.
+  pub record IsQuiet (old new : D) : Type 0 where
+    pub tells : told new ≡ told old
+    pub tells_crashes_too : tells_crashes new ≡ tells_crashes old
+    pub length_is : size_of new ≡ size_of old
+    pub image_is : IsTrue (told old) → image new ≡ image old
+    pub no_more : Within (may_leave old) (may_leave new)
+    pub no_fewer : Within (may_leave new) (may_leave old)
+    pub since : Within (may_leave old) (left_since new (moment old))
+    pub time : Elapses (moment old) (moment new) (left_since old) (left_since new) (may_leave new)
+
+  -- a state and itself
+  pub quiet_same : (d : D) → Within (may_leave d) (left_since d (moment d)) → IsQuiet d d
+  quiet_same d only_now = record {
+    tells = refl;
+    tells_crashes_too = refl;
+    length_is = refl;
+    image_is = λ _. refl;
+    no_more = λ c left. left;
+    no_fewer = λ c left. left;
+    since = only_now;
+    time = record { later = omega arith; nothing_else = λ t c le left. inl left; keeps = λ t c le left. left };
+  }
+
+  -- one quiet stretch behind another
+  pub quiet_chains : (old mid new : D) → IsQuiet old mid → IsQuiet mid new → IsQuiet old new
+  quiet_chains old mid new first second = record {
+    tells = second.tells ∙ first.tells;
+    tells_crashes_too = second.tells_crashes_too ∙ first.tells_crashes_too;
+    length_is = second.length_is ∙ first.length_is;
+    image_is = λ tells. second.image_is (subst IsTrue (sym first.tells) tells) ∙ first.image_is tells;
+    no_more = λ c left. first.no_more c (second.no_more c left);
+    no_fewer = λ c left. second.no_fewer c (first.no_fewer c left);
+    since = λ c left. ⊎_elim (first.since c) (λ now. first.no_more c (second.no_more c now)) (second.time.nothing_else (moment old) c first.time.later left);
+    time = record {
+      later = omega (arith, first.time.later, second.time.later);
+      nothing_else = λ t c le left. ⊎_elim (λ was. ⊎_elim (λ past. inl past) (λ now. inr (second.no_fewer c now)) (first.time.nothing_else t c le was)) (λ now. inr now)
+          (second.time.nothing_else t c (omega (arith, le, first.time.later)) left);
+      keeps = λ t c le left. second.time.keeps t c (omega (arith, le, first.time.later)) (first.time.keeps t c le left);
+    };
+  }
+
+  -- a run goes on over a quiet stretch
+  pub calmly : (old mid new : D) (P : List ℕ → Type 0) → LeavesOnly moment left_since old mid P → IsQuiet mid new
+      → ((c : List ℕ) → may_leave mid c → P c) → LeavesOnly moment left_since old new P
+  calmly old mid new P run quiet here = goes_on moment left_since old mid new P (may_leave new) run quiet.time (λ c now. here c (quiet.no_more c now))

@@ -1,0 +1,19 @@
+//! Bytes laid over an image in memory.
+ghost use Rattle.std.specs.Prelude.{◌≡◌, ◌≤◌, ◌+◌, ◌<◌, OnOk, OnErr, length, vec_len, vec_capacity};
+ghost use Rattle.spb_edge.specs.Disk.{laid};
+
+use crate::Memory;
+
+/// Lays bytes over an image, within which or at whose end they begin. Memory is wanted only where they
+/// reach past the capacity, and nothing changes then.
+pub(crate) fn lay(image: &mut Vec<u8>, at: usize, bytes: &[u8]) -> Result<(), Memory>
+    requires { at ≤ length image.old.items }
+    ensures laid { OnOk result (image.new.items ≡ laid image.old.items at bytes.now) }
+    ensures kept { OnErr result (image.new.items ≡ image.old.items) }
+    ensures full { OnErr result (vec_capacity image.old < at + length bytes.now) }
+{
+    let over = bytes.len().min(image.len() - at);
+    image.extend_from_slice(&bytes[over..])?;
+    image[at..at + over].copy_from_slice(&bytes[..over]);
+    Ok(())
+}
