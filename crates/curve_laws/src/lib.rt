@@ -5,9 +5,11 @@
 #![tactic(auto)]
 
 mod curve;
+mod grid;
 #[cfg(test)]
 mod tests;
 mod vect;
 
 pub use curve::{Curve, obeys_laws};
+pub use grid::Grid;
 pub use vect::Vect;

@@ -1,0 +1,12 @@
+pub use Rattle.curve_laws.specs.Grid
+pub use Rattle.curve_laws.specs.Laws
+pub mod Axes
+pub mod Curve
+pub mod CurveLaws
+pub mod Lanes
+pub mod Rotation
+pub mod RowLaws
+pub mod Rows
+pub mod StepLaws
+pub mod Tables
+pub mod WalkLaws

@@ -1,0 +1,4 @@
+pub mod Interleaving
+pub mod Pieces
+pub mod Separating
+pub mod Steps

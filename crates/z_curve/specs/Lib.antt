@@ -1,0 +1,5 @@
+pub use Rattle.curve_laws.specs.Grid
+pub use Rattle.curve_laws.specs.Laws
+pub mod Spacing
+pub mod ZLaws
+pub mod ZOrder
