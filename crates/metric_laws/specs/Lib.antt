@@ -1,1 +1,6 @@
 pub mod Laws
+pub mod Log
+pub mod LogLaws
+pub mod Meters
+pub mod PivotLaws
+pub mod Pivots

@@ -1,43 +1,9 @@
-//! What a metric on byte strings is: the trait [`Metric`] and its laws.
+//! What a metric on byte strings is, and what measures by one and counts: the traits [`Metric`] and
+//! [`Ruler`] with their laws.
 #![tactic(auto)]
 
-ghost use Rattle.std.specs.Prelude.{◌≡◌, ℕ, ◌↔◌, IsTrue, List};
-ghost use Rattle.metric_laws.specs.Laws.{IsMetric};
+mod metric;
+mod ruler;
 
-/// A metric on byte strings, whose laws are proved for each type that implements it.
-///
-/// A metric admits some byte strings, its objects, and gives any two of them a distance, a whole
-/// number of at most `top`. Objects at distance 0 are equal, the distance is the same both ways,
-/// and a way round by a third object is never shorter.
-pub trait Metric: Copy {
-    // the objects that the metric measures
-    ghost admitted: { Self → List ℕ → Type 0 };
-
-    // the distance of two admitted objects
-    ghost dist: { Self → List ℕ → List ℕ → ℕ };
-
-    // a bound of every distance
-    ghost top: { Self → ℕ };
-
-    /// Whether the metric measures the object.
-    fn admits(&self, object: &[u8]) -> bool
-        ensures { IsTrue result ↔ admitted self.now object.now };
-
-    /// The distance of two admitted objects.
-    fn distance(&self, a: &[u8], b: &[u8]) -> u32
-        requires first { admitted self.now a.now }
-        requires second { admitted self.now b.now }
-        ensures { result ≡ dist self.now a.now b.now };
-
-    /// A bound that no distance of two admitted objects is past.
-    fn top(&self) -> u32
-        ensures { result ≡ top self.now };
-
-    // the distance is a metric on the admitted objects, and the top bounds it
-    ghost metric_laws: { (m : Self) → IsMetric (admitted m) (dist m) (top m) };
-}
-
-/// The laws of any metric, as a contract: the call does nothing.
-pub fn obeys_laws<M: Metric>(metric: &M)
-    ensures { IsMetric (M.admitted metric.now) (M.dist metric.now) (M.top metric.now) }
-{}
+pub use metric::{Metric, bounds_by_pivots, obeys_laws};
+pub use ruler::{Counted, Ruler, Traced};

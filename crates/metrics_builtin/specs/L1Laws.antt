@@ -85,11 +85,13 @@ l1_dist-bounded dim most a b small v w =
 pub l1_metric : (dim most : ℕ) → most < 2 ^ 32 →
     IsMetric (IsVector dim most) (λ a b. l1_dist (components a) (components b)) (dim * most)
 l1_metric dim most small = record {
-  zero_iff_equal = λ a b v w. (
-    λ z. same_components dim most a b small v w (l1_dist-zero (components a) (components b) (same_length dim most a b v w) z),
-    λ e. ap (λ c. l1_dist (components a) (components c)) (sym e) ∙ l1_dist-self (components a),
-  );
-  symmetric = λ a b v w. l1_dist-comm (components a) (components b) (same_length dim most a b v w);
-  triangle = λ a b c v w x. l1_dist-triangle (components a) (components b) (components c) (same_length dim most a b v w) (same_length dim most b c w x);
+  distance = record {
+    zero_iff_equal = λ a b v w. (
+      λ z. same_components dim most a b small v w (l1_dist-zero (components a) (components b) (same_length dim most a b v w) z),
+      λ e. ap (λ c. l1_dist (components a) (components c)) (sym e) ∙ l1_dist-self (components a),
+    );
+    symmetric = λ a b v w. l1_dist-comm (components a) (components b) (same_length dim most a b v w);
+    triangle = λ a b c v w x. l1_dist-triangle (components a) (components b) (components c) (same_length dim most a b v w) (same_length dim most b c w x);
+  };
   bounded = λ a b v w. l1_dist-bounded dim most a b small v w;
 }

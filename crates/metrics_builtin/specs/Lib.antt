@@ -1,6 +1,12 @@
 pub use Rattle.metric_laws.specs.Laws
+pub mod HammingLaws
 pub mod L1Laws
+pub mod LInfLaws
+pub mod SetLaws
+pub mod Sets
 pub mod Space
 pub mod SpaceLaws
+pub mod Strings
 pub mod VectorLaws
 pub mod Vectors
+pub mod WidthLaws

@@ -1,5 +1,5 @@
 -- Laws of vectors: an object and its components determine each other.
-use Rattle.std.proofs.Common.{◌≡◌, ℕ, zero, suc, ◌+◌, ◌*◌, ◌^◌, ◌<◌, ◌≤◌, List, [], ◌∷◌, ◌++◌, length, get_or, refl, sym, ap, subst, ◌∙◌, arith}
+use Rattle.std.proofs.Common.{◌≡◌, ℕ, zero, suc, ◌+◌, ◌*◌, ◌/◌, ◌^◌, ◌<◌, ◌≤◌, List, [], ◌∷◌, ◌++◌, length, get_or, refl, sym, ap, subst, ◌∙◌, arith}
 use Rattle.std.specs.Prelude.{All}
 use Rattle.std.specs.Int.{w32, to_be_bytes, from_be_bytes}
 use Rattle.std.proofs.lemmas.List.Elements.{All-from_get_or, All-tail}
@@ -53,6 +53,15 @@ length-components [] n e = omega arith
 length-components (a ∷ []) n e = absurd (omega arith)
 length-components (a ∷ b ∷ []) n e = absurd (omega arith)
 length-components (a ∷ b ∷ c ∷ []) n e = absurd (omega arith)
+
+-- as many components as there are whole groups of four bytes
+pub length-components-div : (object : List ℕ) → length (components object) ≡ length object / 4
+unfolding components
+length-components-div (a ∷ b ∷ c ∷ d ∷ rest) = omega (arith, length-components-div rest)
+length-components-div [] = refl
+length-components-div (a ∷ []) = refl
+length-components-div (a ∷ b ∷ []) = refl
+length-components-div (a ∷ b ∷ c ∷ []) = refl
 
 -- behind the first four bytes stands the rest
 past_four : (a b c d : ℕ) (rest : List ℕ) (i j : ℕ) → j ≡ i + 4 →

@@ -1,5 +1,5 @@
 -- A vector as an object: its components one after the other, each a number in four bytes, the highest byte first.
-use Rattle.std.specs.Prelude.{◌≡◌, ℕ, ◌≤◌, List, [], ◌∷◌, length, All, sum_by}
+use Rattle.std.specs.Prelude.{◌≡◌, ℕ, ◌≤◌, List, [], ◌∷◌, length, max, map, All, sum_by}
 use Rattle.std.specs.Int.{w32, to_be_bytes, from_be_bytes, abs_diff}
 use Rattle.std.specs.List.{flat_map, zip}
 
@@ -22,3 +22,12 @@ pub record IsVector (dim most : ℕ) (object : List ℕ) : Type 0 where
 -- the sum of the differences, component by component
 unfoldable pub l1_dist : List ℕ → List ℕ → ℕ
 l1_dist xs ys = sum_by (λ p. abs_diff p.0 p.1) (zip xs ys)
+
+-- the greatest of some numbers, and 0 of none
+abbrev pub greatest : List ℕ → ℕ
+greatest [] = 0
+greatest (x ∷ xs) = max x (greatest xs)
+
+-- the greatest of the differences, component by component
+unfoldable pub linf_dist : List ℕ → List ℕ → ℕ
+linf_dist xs ys = greatest (map (λ p. abs_diff p.0 p.1) (zip xs ys))

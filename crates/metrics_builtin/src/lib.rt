@@ -1,12 +1,16 @@
 //! The built-in spaces and their metrics.
 #![tactic(auto)]
 
-ghost use Rattle.std.specs.Prelude.{◌≡◌};
-ghost use Rattle.metrics_builtin.specs.Space.{fits};
+ghost use Rattle.std.specs.Prelude.{◌≡◌, IsTrue};
+ghost use Rattle.metrics_builtin.specs.Space.{fits, top, bits, IsWidth};
 
+pub mod sets;
+pub mod strings;
 pub mod vectors;
 
-pub use vectors::L1;
+pub use sets::SetDiff;
+pub use strings::Hamming;
+pub use vectors::{L1, LInf, component};
 
 /// Which byte strings are objects, and how far two of them are apart.
 #[derive(Clone, Copy, PartialEq, Eq, Debug)]
@@ -15,11 +19,20 @@ pub enum Space {
     /// after the other, each in four bytes, the highest first. The distance is the sum of the
     /// differences.
     L1 { dim: u32, most: u32 },
+    /// The same vectors. The distance is the greatest of the differences.
+    LInf { dim: u32, most: u32 },
+    /// Strings of `len` bytes. The distance is the number of places in which they differ.
+    Hamming { len: u32 },
+    /// Sets of at most `most` numbers below `universe`, an object's bytes being its elements one after
+    /// the other, rising, each in four bytes, the highest first. The distance is the number of
+    /// elements that are in exactly one of the two.
+    Sets { universe: u32, most: u32 },
 }
 
 impl Space {
-    /// Whether the numbers of the space are in range: `dim` from 1 to 30, `most` at least 1, and
-    /// their product, the greatest distance, at most 4294967295.
+    /// Whether the numbers of the space are in range: `dim` from 1 to 30, `most` at least 1, and for
+    /// `L1` their product, the greatest distance, at most 4294967295; `len` from 1 to 120; `universe`
+    /// at least 1, and `most` of `Sets` from 1 to 30.
     pub fn fits(&self) -> bool
         ensures { result ≡ fits self.now }
     {
@@ -27,95 +40,34 @@ impl Space {
             Space::L1 { dim, most } => {
                 1 <= dim && dim <= 30 && 1 <= most && dim as u64 * most as u64 <= u32::MAX as u64
             }
+            Space::LInf { dim, most } => 1 <= dim && dim <= 30 && 1 <= most,
+            Space::Hamming { len } => 1 <= len && len <= 120,
+            Space::Sets { universe, most } => 1 <= universe && 1 <= most && most <= 30,
         }
+    }
+
+    /// The greatest distance that two objects of the space may have.
+    pub fn top(&self) -> u32
+        requires { IsTrue (fits self.now) }
+        ensures { result ≡ top self.now }
+    {
+        match *self {
+            Space::L1 { dim, most } => dim * most,
+            Space::LInf { most, .. } => most,
+            Space::Hamming { len } => len,
+            Space::Sets { universe, most } => universe.min(2 * most),
+        }
+    }
+
+    /// The least number of bits, at least one, that hold every distance: 1 to 32.
+    pub fn bits(&self) -> u8
+        requires { IsTrue (fits self.now) }
+        ensures value { result ≡ bits self.now }
+        ensures least { IsWidth (top self.now) result }
+    {
+        self.top().ilog2() as u8 + 1
     }
 }
 
 #[cfg(test)]
-mod tests {
-    use super::*;
-    use metric_laws::{Metric, obeys_laws};
-
-    // the distance of two objects, where the metric admits both
-    fn measured<M: Metric>(metric: &M, a: &[u8], b: &[u8]) -> Option<u32> {
-        obeys_laws(metric);
-        if metric.admits(a) && metric.admits(b) {
-            Some(metric.distance(a, b))
-        } else {
-            None
-        }
-    }
-
-    // the object of two components below 256
-    fn pair(x: u8, y: u8) -> [u8; 8] {
-        [0, 0, 0, x, 0, 0, 0, y]
-    }
-
-    #[test]
-    fn measures_vectors(rt: HostRuntime) {
-        let metric = L1 { dim: 2, most: 255 };
-        assert_eq!(rt; metric.top(), 510);
-        for (a, b, distance) in [
-            (pair(0, 0), pair(3, 4), 7),
-            (pair(3, 0), pair(255, 0), 252),
-            (pair(0, 0), pair(255, 0), 255),
-            (pair(10, 10), pair(0, 0), 20),
-            (pair(10, 10), pair(10, 10), 0),
-        ] {
-            assert_eq!(rt;
-                measured(&metric, &a, &b),
-                Some(distance),
-                "from {a:?} to {b:?}"
-            );
-        }
-    }
-
-    #[test]
-    fn measures_sixteen_components(rt: HostRuntime) {
-        let metric = L1 { dim: 16, most: 255 };
-        let mut far = [0; 64];
-        for i in 0..16 {
-            far[4 * i + 3] = 255;
-        }
-        assert_eq!(rt; metric.top(), 4080);
-        assert_eq!(rt; measured(&metric, &[0; 64], &far), Some(4080));
-    }
-
-    #[test]
-    fn admits_vectors(rt: HostRuntime) {
-        let metric = L1 { dim: 2, most: 255 };
-        let objects: [(&[u8], bool); 7] = [
-            (&[0, 0, 0, 0, 0, 0, 0, 0], true),
-            (&[0, 0, 0, 255, 0, 0, 0, 255], true),
-            (&[0, 0, 1, 0, 0, 0, 0, 0], false),
-            (&[0, 0, 0, 0, 0, 0, 1, 0], false),
-            (&[0, 0, 0, 0, 0, 0, 0], false),
-            (&[0, 0, 0, 0, 0, 0, 0, 0, 0, 0, 0, 0], false),
-            (&[], false),
-        ];
-        for (object, admitted) in objects {
-            assert_eq!(rt; metric.admits(object), admitted, "at {object:?}");
-        }
-    }
-
-    #[test]
-    fn fits_within_32_bits(rt: HostRuntime) {
-        for (dim, most, fits) in [
-            (1, 1, true),
-            (30, 1, true),
-            (31, 255, false),
-            (0, 1, false),
-            (2, 0, false),
-            (30, 143165576, true),
-            (30, 143165577, false),
-            (1, 4294967295, true),
-            (2, 4294967295, false),
-        ] {
-            assert_eq!(rt;
-                Space::L1 { dim, most }.fits(),
-                fits,
-                "{dim} components to {most}"
-            );
-        }
-    }
-}
+mod tests;

@@ -1,0 +1,22 @@
+-- What a ruler that writes a log keeps.
+use Rattle.std.specs.Prelude.{ℕ, List, [], Option, Some, None, Vec}
+use Rattle.metric_laws.specs.Log.{Measured}
+use Rattle.metric_laws.specs.declared.ruler.Traced.{Traced}
+
+-- the metric, how many distances it measured, and which, while that is told
+pub record Trace (M : Type 0) : Type 0 where
+  pub metric : M
+  pub count : ℕ
+  pub log : Option (List Measured)
+
+-- the log as a list: nothing where it isn't told
+abbrev pub told_log : Option (List Measured) → List Measured
+told_log None = []
+told_log (Some log) = log
+
+abbrev pub log_of : {G : Type 0} → Option (Vec (List ℕ × List ℕ) G) → Option (List Measured)
+log_of None = None
+log_of (Some pairs) = Some pairs.items
+
+abbrev pub trace_of : {M : Type 0} → Traced M → Trace M
+trace_of r = record { metric = r.ruler.metric; count = r.ruler.count; log = log_of r.pairs }
