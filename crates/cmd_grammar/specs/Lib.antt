@@ -1,8 +1,9 @@
 pub mod OneLine
 pub mod ReadsCommand
+pub mod HoldsObject
+pub mod LineWords
 pub use Rattle.spb_defs.specs.Numbers
 pub use Rattle.spb_defs.specs.ObjectText
 pub use Rattle.spb_defs.specs.Grammar
 pub use Rattle.spb_defs.specs.ReplyText
 pub use Rattle.spb_defs.specs.Words
-pub use Rattle.object_text.specs.Texts

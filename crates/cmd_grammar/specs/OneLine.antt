@@ -3,14 +3,20 @@ use Rattle.std.specs.Prelude.{ℕ, List, [], ◌∷◌, codes}
 use Rattle.std.specs.Fmt.{decimal}
 use Rattle.std.specs.List.{join_with_byte}
 use Rattle.metrics_builtin.specs.declared.Space.{Space}
-use Rattle.object_text.specs.Texts.{text_of}
+use Rattle.spb_defs.specs.ObjectText.{text_of}
 use Rattle.spb_defs.specs.declared.Command.{Command}
-use Rattle.spb_defs.specs.declared.Command.TheVariants.{Add, Range}
+use Rattle.spb_defs.specs.declared.Command.TheVariants.{Sample, Add, Discard, Get, Count, Range, Near, Join}
 
--- its name, the collection, the id or the radius, the object
+-- its name, the collections, the id or the number, the object
 abbrev pub words_of : Space → Command → List (List ℕ)
+words_of space (Sample object) = codes "sample" ∷ text_of space object ∷ []
 words_of space (Add c id object) = codes "add" ∷ decimal c ∷ decimal id ∷ text_of space object ∷ []
+words_of space (Discard c id) = codes "drop" ∷ decimal c ∷ decimal id ∷ []
+words_of space (Get c id) = codes "get" ∷ decimal c ∷ decimal id ∷ []
+words_of space (Count c) = codes "count" ∷ decimal c ∷ []
 words_of space (Range c r object) = codes "range" ∷ decimal c ∷ decimal r ∷ text_of space object ∷ []
+words_of space (Near c k object) = codes "near" ∷ decimal c ∷ decimal k ∷ text_of space object ∷ []
+words_of space (Join c d r) = codes "join" ∷ decimal c ∷ decimal d ∷ decimal r ∷ []
 
 -- the words with a space between them
 abbrev pub command_text : Space → Command → List ℕ

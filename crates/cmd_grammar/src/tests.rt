@@ -1,39 +1,54 @@
 use super::*;
+use answer_lists::{Ids, Pairs, Ranks};
 use metrics_builtin::Space;
-use spb_edge::{Bytes, Ids};
+use spb_edge::Bytes;
 use std::test::Fail;
 
-#[test]
-fn an_addition(rt: HostRuntime) -> Result<(), Fail> {
-    let space = Space::L1 { dim: 2, most: 255 };
-    match read_command(rt.alloc(), &space, b"add 0 1 0,0")? {
-        Command::Add { c, id, object } => {
-            assert_eq!(rt; c, 0);
-            assert_eq!(rt; id, 1);
-            assert_eq!(rt; object.as_slice(), [0, 0, 0, 0, 0, 0, 0, 0].as_slice());
-        }
-        Command::Range { .. } => panic!(rt; "a range"),
+/// The plane of points with components up to 255.
+const PLANE: Space = Space::L1 { dim: 2, most: 255 };
+
+/// The parts of the command, which each test of a line compares.
+fn parts(command: &Command) -> (&'static str, u32, u32, Option<&[u8]>) {
+    match command {
+        Command::Sample { object } => ("sample", 0, 0, Some(object.as_slice())),
+        Command::Add { c, id, object } => ("add", u32::from(*c), *id, Some(object.as_slice())),
+        Command::Discard { c, id } => ("drop", u32::from(*c), *id, None),
+        Command::Get { c, id } => ("get", u32::from(*c), *id, None),
+        Command::Count { c } => ("count", u32::from(*c), 0, None),
+        Command::Range { c, r, object } => ("range", u32::from(*c), *r, Some(object.as_slice())),
+        Command::Near { c, k, object } => ("near", u32::from(*c), *k, Some(object.as_slice())),
+        Command::Join { c, d, r } => ("join", u32::from(*c) * 10 + u32::from(*d), *r, None),
     }
-    Ok(())
 }
 
 #[test]
-fn a_range(rt: HostRuntime) -> Result<(), Fail> {
-    let space = Space::L1 { dim: 2, most: 255 };
-    match read_command(rt.alloc(), &space, b"range 3 4294967295 1,2")? {
-        Command::Range { c, r, object } => {
-            assert_eq!(rt; c, 3);
-            assert_eq!(rt; r, 4294967295);
-            assert_eq!(rt; object.as_slice(), [0, 0, 0, 1, 0, 0, 0, 2].as_slice());
-        }
-        Command::Add { .. } => panic!(rt; "an addition"),
+fn each_command(rt: HostRuntime) -> Result<(), Fail> {
+    let point: &[u8] = &[0, 0, 0, 1, 0, 0, 0, 2];
+    for (line, want) in [
+        ("sample 1,2", ("sample", 0, 0, Some(point))),
+        ("add 0 7 1,2", ("add", 0, 7, Some(point))),
+        ("drop 1 0", ("drop", 1, 0, None)),
+        ("get 2 4294967295", ("get", 2, 4294967295, None)),
+        ("count 3", ("count", 3, 0, None)),
+        (
+            "range 3 4294967295 1,2",
+            ("range", 3, 4294967295, Some(point)),
+        ),
+        ("near 0 65536 1,2", ("near", 0, 65536, Some(point))),
+        ("join 1 2 30", ("join", 12, 30, None)),
+    ] {
+        let command = read_command(rt.alloc(), &PLANE, line.as_bytes())?;
+        let (name, first, second, object) = parts(&command);
+        let (want_name, want_first, want_second, want_object) = want;
+        assert!(rt; name == want_name, "{line}");
+        assert_eq!(rt; (first, second), (want_first, want_second), "{line}");
+        assert!(rt; object == want_object, "{line}");
     }
     Ok(())
 }
 
 #[test]
 fn lines_that_are_no_commands(rt: HostRuntime) {
-    let space = Space::L1 { dim: 2, most: 255 };
     for (line, failed) in [
         ("", What::Command),
         ("add 0 1", What::Command),
@@ -44,11 +59,20 @@ fn lines_that_are_no_commands(rt: HostRuntime) {
         ("range 0 -1 3,0", What::Number),
         ("add 0 6 256,0", What::Object),
         ("add 9 06 x", What::Collection),
+        ("near 0 0 1,1", What::Number),
+        ("near 0 65537 1,1", What::Number),
+        ("join 0 4 x", What::Collection),
+        ("join 0 3 x", What::Number),
+        ("count", What::Command),
+        ("count 0 0", What::Command),
+        ("drop 0", What::Command),
+        ("sample", What::Command),
+        ("sample 1", What::Object),
         ("add  0 1 0,0", What::Command),
         ("ADD 0 1 0,0", What::Command),
         ("add 0 1 0,0 ", What::Command),
     ] {
-        match read_command(rt.alloc(), &space, line.as_bytes()) {
+        match read_command(rt.alloc(), &PLANE, line.as_bytes()) {
             Err(e) => assert!(rt; e == LineError::Bad(failed), "{line}"),
             Ok(_) => panic!(rt; "{line}"),
         }
@@ -58,10 +82,14 @@ fn lines_that_are_no_commands(rt: HostRuntime) {
 #[test]
 fn replies_as_lines(rt: HostRuntime) -> Result<(), Fail> {
     let mut text = Bytes::of(rt.alloc(), b"")?;
-    write_reply(&Reply::Done, &mut text)?;
-    write_reply(&Reply::Exists, &mut text)?;
-    write_reply(&Reply::Full, &mut text)?;
-    write_reply(&Reply::Long, &mut text)?;
+    write_reply(&PLANE, &Reply::Done, &mut text)?;
+    write_reply(&PLANE, &Reply::Exists, &mut text)?;
+    write_reply(&PLANE, &Reply::Absent, &mut text)?;
+    write_reply(&PLANE, &Reply::Full, &mut text)?;
+    write_reply(&PLANE, &Reply::Curve, &mut text)?;
+    write_reply(&PLANE, &Reply::Late, &mut text)?;
+    write_reply(&PLANE, &Reply::Long, &mut text)?;
+    write_reply(&PLANE, &Reply::Count(4294967295), &mut text)?;
     for failed in [
         What::Command,
         What::Collection,
@@ -69,10 +97,10 @@ fn replies_as_lines(rt: HostRuntime) -> Result<(), Fail> {
         What::Number,
         What::Object,
     ] {
-        write_reply(&Reply::Bad(failed), &mut text)?;
+        write_reply(&PLANE, &Reply::Bad(failed), &mut text)?;
     }
     let want =
-        b"ok\nexists\nfull\nlong\nbad command\nbad collection\nbad id\nbad number\nbad object\n";
+        b"ok\nexists\nabsent\nfull\ncurve\nlate\nlong\ncount 4294967295\nbad command\nbad collection\nbad id\nbad number\nbad object\n";
     assert!(rt; text.as_slice() == want.as_slice());
     Ok(())
 }
@@ -85,19 +113,19 @@ fn answers_to_ranges(rt: HostRuntime) -> Result<(), Fail> {
         evals: 4,
         sure: 1,
     };
-    write_reply(&some, &mut text)?;
+    write_reply(&PLANE, &some, &mut text)?;
     let none = Reply::Range {
         ids: Ids::of(rt.alloc(), &[])?,
         evals: 1,
         sure: 0,
     };
-    write_reply(&none, &mut text)?;
+    write_reply(&PLANE, &none, &mut text)?;
     let greatest = Reply::Range {
         ids: Ids::of(rt.alloc(), &[4294967295])?,
         evals: 1,
         sure: 1,
     };
-    write_reply(&greatest, &mut text)?;
+    write_reply(&PLANE, &greatest, &mut text)?;
     let want =
         b"range 3 evals 4 sure 1: 1 2 3\nrange 0 evals 1 sure 0:\nrange 1 evals 1 sure 1: 4294967295\n";
     assert!(rt; text.as_slice() == want.as_slice());
@@ -105,22 +133,70 @@ fn answers_to_ranges(rt: HostRuntime) -> Result<(), Fail> {
 }
 
 #[test]
+fn answers_with_pairs(rt: HostRuntime) -> Result<(), Fail> {
+    let mut text = Bytes::of(rt.alloc(), b"")?;
+    let near = Reply::Near {
+        rows: Ranks::of(rt.alloc(), &[(3, 1), (4, 2)])?,
+        evals: 4,
+    };
+    write_reply(&PLANE, &near, &mut text)?;
+    let join = Reply::Join {
+        pairs: Pairs::of(rt.alloc(), &[(1, 1), (2, 9)])?,
+        evals: 1,
+        sure: 1,
+    };
+    write_reply(&PLANE, &join, &mut text)?;
+    let want = b"near 2 evals 4: 1@3 2@4\njoin 2 evals 1 sure 1: 1-1 2-9\n";
+    assert!(rt; text.as_slice() == want.as_slice());
+    Ok(())
+}
+
+#[test]
 fn words_of_the_program(rt: HostRuntime) -> Result<(), Fail> {
+    let points = Space::L1 { dim: 2, most: 255 };
+    let wide = Space::LInf {
+        dim: 2,
+        most: 4294967295,
+    };
+    let sets = Space::Sets {
+        universe: 100,
+        most: 5,
+    };
+    let codes = Space::Hamming { len: 120 };
     for (words, want) in [
-        ("mem l1 2 255", Some(Space::L1 { dim: 2, most: 255 })),
+        ("mem l1 2 255", Some((points, 0))),
+        ("mem l1 2 255 0", Some((points, 0))),
+        ("mem l1 2 255 2", Some((points, 2))),
+        ("mem l1 2 255 8", Some((points, 8))),
+        ("mem l1 2 255 9", None),
+        ("mem l1 2 255 02", None),
+        ("mem l1 2 255 -1", None),
+        ("mem l1 2 255 2 2", None),
         ("", None),
         ("mem l1 31 255", None),
         ("mem l1 02 255", None),
         ("mem l1 2", None),
-        ("mem l1 2 255 0", None),
         ("mem l2 2 255", None),
         ("mem l1 2 0", None),
         ("mem l1 2 4294967295", None),
+        ("mem linf 2 4294967295", Some((wide, 0))),
+        ("mem linf 31 255", None),
+        ("mem hamming 120", Some((codes, 0))),
+        ("mem hamming 120 3", Some((codes, 3))),
+        ("mem hamming 121", None),
+        ("mem hamming 3 9", None),
+        ("mem hamming 3 0 0", None),
+        ("mem sets 100 5", Some((sets, 0))),
+        ("mem sets 100 5 1", Some((sets, 1))),
+        ("mem sets 100 31", None),
+        ("mem sets 100", None),
+        ("mem", None),
     ] {
         let mut list = Vec::new(rt.alloc());
         for word in words.split_whitespace() {
             list.push(String::from_str(rt.alloc(), word)?)?;
         }
+        let want = want.map(|(space, pivots)| MemorySetup { space, pivots });
         assert!(rt; read_words(&list) == want, "{words}");
     }
     Ok(())

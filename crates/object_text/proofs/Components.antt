@@ -10,13 +10,10 @@ use Rattle.std.proofs.lemmas.Grind.{flat_map-append}
 use Rattle.std.proofs.lemmas.List.Splits.{slice_split_none, length-slice_split}
 use Rattle.std.proofs.lemmas.Option.{cond_some}
 use Rattle.std.proofs.lemmas.Str.Parse.{digit_at}
-use Rattle.metrics_builtin.specs.declared.Space.{Space}
-use Rattle.metrics_builtin.specs.declared.Space.TheVariants.{L1}
-use Rattle.metrics_builtin.specs.Space.{IsValid}
 use Rattle.metrics_builtin.specs.Vectors.{spelled, IsVector}
 use Rattle.metrics_builtin.specs.VectorLaws.{IsVector-spelled, length-spelled}
 use Rattle.spb_defs.specs.Numbers.{number_of, at_most, number_within}
-use Rattle.spb_defs.specs.ObjectText.{numbers_within, vector_with, object_of}
+use Rattle.spb_defs.specs.ObjectText.{numbers_within, numbers_in, vector_with, vector_of_text}
 use Rattle.object_text.proofs.Numerals.{number_of-some}
 use Rattle.object_text.proofs.Cuts.{split-none, split-some}
 
@@ -124,8 +121,8 @@ pub record IsBegun (dim most done : ℕ) (object rest : List ℕ) (whole : Optio
   pub bytes : object ≡ spelled numbers
   pub goes_on : whole ≡ completed dim most numbers (slice_split (λ b. b == 44) rest)
 
-pub begins : (dim most : ℕ) (object text : List ℕ) → object ≡ [] → IsBegun dim most 1 object text (object_of (L1 dim most) text)
-unfolding object_of spelled
+pub begins : (dim most : ℕ) (object text : List ℕ) → object ≡ [] → IsBegun dim most 1 object text (vector_of_text dim most text)
+unfolding vector_of_text spelled
 begins dim most object text e = record { numbers = []; count = refl; bytes = e; goes_on = refl }
 
 pub room : (dim most done : ℕ) (object rest : List ℕ) (whole : Option (List ℕ)) → IsBegun dim most done object rest whole → length object + 4 ≡ 4 * done
@@ -144,7 +141,7 @@ pub fails : (dim most done : ℕ) (object rest : List ℕ) (whole : Option (List
 fails dim most done object rest whole word words b parts none =
     b.goes_on ∙ ap (completed dim most b.numbers) parts ∙ completed-none dim most b.numbers word words none
 
-spelled-push : (ns : List ℕ) (n : ℕ) → spelled (ns ++ n ∷ []) ≡ spelled ns ++ to_be_bytes w32 n
+pub spelled-push : (ns : List ℕ) (n : ℕ) → spelled (ns ++ n ∷ []) ≡ spelled ns ++ to_be_bytes w32 n
 unfolding spelled
 spelled-push ns n = flat_map-append (to_be_bytes w32) ns (n ∷ []) ∙ ap (λ (bytes : List ℕ). flat_map (to_be_bytes w32) ns ++ bytes) (append-nil (to_be_bytes w32 n))
 
@@ -191,8 +188,8 @@ valid_numbers dim most words (Some ns) object h e =
     let many : length ns ≡ dim = grind (arith, nat_tests) in
     subst (IsVector dim most) test.1 (IsVector-spelled dim most ns many (h ns refl))
 
-pub object_of-valid : (space : Space) (text object : List ℕ) → object_of space text ≡ Some object → IsValid space object
-unfolding object_of
-object_of-valid (L1 dim most) text object e =
-    valid_numbers dim most (slice_split (λ b. b == 44) text) (numbers_within most (slice_split (λ b. b == 44) text)) object
+pub vector_of_text-valid : (dim most : ℕ) (text object : List ℕ) → vector_of_text dim most text ≡ Some object → IsVector dim most object
+unfolding vector_of_text
+vector_of_text-valid dim most text object e =
+    valid_numbers dim most (slice_split (λ b. b == 44) text) (numbers_in most text) object
     (All-numbers_within most (slice_split (λ b. b == 44) text)) e

@@ -1,4 +1,11 @@
-pub mod Numerals
-pub mod Cuts
 pub mod Components
+pub mod Cuts
+pub mod Numerals
+pub mod NumbersWritten
+pub mod ObjectTexts
+pub mod SetReading
+pub mod SetTexts
+pub mod StringReading
+pub mod StringTexts
 pub mod Texts
+pub mod VectorTexts

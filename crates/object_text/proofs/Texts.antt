@@ -1,6 +1,6 @@
--- The text of an object is read as it, and what is read as an object is its text.
-use Rattle.std.proofs.Common.{◌≡◌, ℕ, ◌*◌, ◌^◌, ◌<◌, ◌≤◌, ◌==◌, Bool, true, false, cond, List, [], ◌∷◌, length, get_or, map, refl, sym, ap, subst, ◌∙◌, arith, Option, Some, None, nat_le}
-use Rattle.std.specs.Prelude.{option_and_then, All, IsTrue}
+-- The text of a number, or of several, is read as it, and what is read is its text.
+use Rattle.std.proofs.Common.{◌≡◌, ℕ, ◌+◌, ◌^◌, ◌<◌, ◌≤◌, ◌==◌, Bool, true, false, cond, List, [], ◌∷◌, length, get_or, map, refl, sym, ap, ◌∙◌, arith, Option, Some, None, nat_le}
+use Rattle.std.specs.Prelude.{option_and_then, All, count_by}
 use Rattle.std.specs.Fmt.{decimal}
 use Rattle.std.specs.Int.{IsInRange}
 use Rattle.std.specs.List.{slice_split, join_with_byte, AllByRecursion}
@@ -8,21 +8,13 @@ use Rattle.std.specs.Str.Parse.{AllDigits, digits_value}
 use Rattle.std.proofs.lemmas.Bool.Decides.{nat_tests}
 use Rattle.std.proofs.lemmas.Fmt.{decimal_is_IsNumeral, decimal-digits_value}
 use Rattle.std.proofs.lemmas.List.{length-map}
-use Rattle.std.proofs.lemmas.Nat.{mul-le}
 use Rattle.std.proofs.lemmas.List.Elements.{All-from_get_or, All-append, All-cons, All-tail}
-use Rattle.std.proofs.lemmas.List.Splits.{slice_split_none, slice_split_at, join_with_byte-slice_split}
-use Rattle.std.proofs.lemmas.Option.{cond_some}
+use Rattle.std.proofs.lemmas.List.Splits.{slice_split_none, slice_split_at, join_with_byte-slice_split, length-slice_split}
 use Rattle.std.proofs.lemmas.Str.Parse.{numerals_by_value, tells_digits, digit_at}
-use Rattle.metrics_builtin.specs.declared.Space.{Space}
-use Rattle.metrics_builtin.specs.declared.Space.TheVariants.{L1}
-use Rattle.metrics_builtin.specs.Space.{fits, IsValid}
-use Rattle.metrics_builtin.specs.Vectors.{components, spelled}
-use Rattle.metrics_builtin.specs.VectorLaws.{components-spelled, components-IsVector}
 use Rattle.spb_defs.specs.Numbers.{number_of, at_most, number_within}
-use Rattle.spb_defs.specs.ObjectText.{numbers_within, vector_with, object_of}
-use Rattle.object_text.specs.Texts.{text_of}
+use Rattle.spb_defs.specs.ObjectText.{numbers_text, numbers_within, numbers_in}
 use Rattle.object_text.proofs.Numerals.{number_of-some, number_of-plain, plain_decimal}
-use Rattle.object_text.proofs.Components.{consed, nil_some, at_most-some, All-numbers_within, object_of-valid}
+use Rattle.object_text.proofs.Components.{consed, nil_some, at_most-some, length-numbers_within, All-numbers_within}
 
 -- ---- numbers
 
@@ -96,71 +88,40 @@ IsFree-decimals mark bound (n ∷ ns) h small low =
     let first : n ≤ bound = low 0 0 (omega arith) in
     (IsFree-decimal mark n h (omega arith), IsFree-decimals mark bound ns h small (All-tail (λ k. k ≤ bound) n ns low))
 
--- ---- the law
-
-dim_above : (dim most : ℕ) → IsTrue (fits (L1 dim most)) → 1 ≤ dim
-dim_above dim most h = grind (arith, nat_tests)
-
-product_below : (dim most : ℕ) → IsTrue (fits (L1 dim most)) → dim * most < 2 ^ 32
-product_below dim most h = grind (arith, nat_tests)
-
-most_below : (dim most : ℕ) → IsTrue (fits (L1 dim most)) → most < 2 ^ 32
-most_below dim most h =
-    let product : dim * most < 2 ^ 32 = product_below dim most h in
-    let whole : 1 * most ≤ dim * most = mul-le 1 most dim most (dim_above dim most h) (omega arith) in
-    omega arith
-
--- what is read of the words
-record IsOf (dim : ℕ) (read : Option (List ℕ)) (object : List ℕ) : Type 0 where
-  numbers : List ℕ
-  is : read ≡ Some numbers
-  bytes : spelled numbers ≡ object
-
-of : (dim : ℕ) (read : Option (List ℕ)) (object : List ℕ) → option_and_then (vector_with dim) read ≡ Some object → IsOf dim read object
-of dim None object e = absurd (cc)
-of dim (Some ns) object e = record { numbers = ns; is = refl; bytes = (cond_some (length ns == dim) (spelled ns) object e).1 }
-
-pub read_text : (space : Space) (text object : List ℕ) → IsTrue (fits space) → object_of space text ≡ Some object → IsValid space object × (text ≡ text_of space object)
-unfolding object_of
-read_text (L1 dim most) text object fit e =
-    let small : most < 2 ^ 32 = most_below dim most fit in
-    let words = slice_split (λ b. b == 44) text in
-    let parts = of dim (numbers_within most words) object e in
-    let low : All (λ n. n ≤ most) parts.numbers = All-numbers_within most words parts.numbers parts.is in
-    let below : All (λ n. n < 2 ^ 32) parts.numbers = λ k d h. let l : get_or parts.numbers k d ≤ most = low k d h in omega arith in
-    let numbers : components object ≡ parts.numbers = ap components (sym parts.bytes) ∙ components-spelled parts.numbers below in (
-      object_of-valid (L1 dim most) text object e,
-      sym (join_with_byte-slice_split 44 text) ∙ ap (join_with_byte 44) (numbers_within-decimals most words parts.numbers parts.is ∙ ap (map decimal) (sym numbers)),
-    )
-
-pub text_read : (space : Space) (text object : List ℕ) → IsTrue (fits space) → IsValid space object → text ≡ text_of space object → object_of space text ≡ Some object
-unfolding object_of
-text_read (L1 dim most) text object fit v e =
-    let small : most < 2 ^ 32 = most_below dim most fit in
-    let some : 1 ≤ dim = dim_above dim most fit in
-    let dimension = v.dimension in
-    let numbers : components object ≡ v.numbers = components-IsVector dim most object small v in
-    let joined : text ≡ join_with_byte 44 (map decimal v.numbers) = e ∙ ap (λ (ns : List ℕ). join_with_byte 44 (map decimal ns)) numbers in
-    let many : length (map decimal v.numbers) ≡ length v.numbers = length-map v.numbers decimal in
-    let words : slice_split (λ b. b == 44) text ≡ map decimal v.numbers =
-    ap (slice_split (λ b. b == 44)) joined ∙ split_joined 44 (map decimal v.numbers) (omega arith) (IsFree-decimals 44 most v.numbers (omega arith) (omega arith) v.within) in
-    let read : numbers_within most (slice_split (λ b. b == 44) text) ≡ Some v.numbers =
-    ap (numbers_within most) words ∙ decimals-numbers_within most v.numbers (omega arith) v.within in
-    let test : (length v.numbers == dim) ≡ true = grind (arith, nat_tests) in
-    ap (option_and_then (vector_with dim)) read ∙ ap (λ (b : Bool). cond b (Some (spelled v.numbers)) None) test ∙ ap (λ (o : List ℕ). Some o) (sym v.spelling)
-
--- ---- no space in a text
-
-IsFree-joined : (mark other : ℕ) (words : List (List ℕ)) → (other == mark) ≡ false → AllByRecursion (IsFree mark) words → IsFree mark (join_with_byte other words)
+pub IsFree-joined : (mark other : ℕ) (words : List (List ℕ)) → (other == mark) ≡ false → AllByRecursion (IsFree mark) words → IsFree mark (join_with_byte other words)
 IsFree-joined mark other [] e h = λ k d inside. absurd (omega arith)
 IsFree-joined mark other (w ∷ []) e h = h.0
 IsFree-joined mark other (w ∷ v ∷ vs) e h =
     All-append (λ x. (x == mark) ≡ false) w (other ∷ join_with_byte other (v ∷ vs)) h.0
     (All-cons (λ x. (x == mark) ≡ false) other (join_with_byte other (v ∷ vs)) e (IsFree-joined mark other (v ∷ vs) e h.1))
 
-pub IsFree-text_of : (space : Space) (object : List ℕ) → IsTrue (fits space) → IsValid space object → IsFree 32 (text_of space object)
-IsFree-text_of (L1 dim most) object fit v =
-    let small : most < 2 ^ 32 = most_below dim most fit in
-    let numbers : components object ≡ v.numbers = components-IsVector dim most object small v in
-    subst (λ (ns : List ℕ). IsFree 32 (join_with_byte 44 (map decimal ns))) (sym numbers)
-    (IsFree-joined 32 44 (map decimal v.numbers) refl (IsFree-decimals 32 most v.numbers (omega arith) (omega arith) v.within))
+-- ---- numbers with commas between them
+
+-- a text of numbers is their text, and has one at least
+pub record AreRead (bound : ℕ) (text ns : List ℕ) : Type 0 where
+  pub text_is : text ≡ numbers_text ns
+  pub some : 0 < length ns
+  pub within : All (λ n. n ≤ bound) ns
+
+pub numbers_in-text : (bound : ℕ) (text ns : List ℕ) → numbers_in bound text ≡ Some ns → AreRead bound text ns
+numbers_in-text bound text ns e =
+    let words = slice_split (λ b. b == 44) text in
+    let many : length words ≡ count_by (λ b. b == 44) text + 1 = length-slice_split (λ b. b == 44) text in
+    let as_many : length ns ≡ length words = length-numbers_within bound words ns e in
+    record {
+      text_is = sym (join_with_byte-slice_split 44 text) ∙ ap (join_with_byte 44) (numbers_within-decimals bound words ns e);
+      some = omega arith;
+      within = All-numbers_within bound words ns e;
+    }
+
+-- the text of some numbers is read as them
+pub text-numbers_in : (bound : ℕ) (ns : List ℕ) → 0 < length ns → bound < 2 ^ 64 → All (λ n. n ≤ bound) ns → numbers_in bound (numbers_text ns) ≡ Some ns
+text-numbers_in bound ns some small low =
+    let many : length (map decimal ns) ≡ length ns = length-map ns decimal in
+    ap (numbers_within bound) (split_joined 44 (map decimal ns) (omega arith) (IsFree-decimals 44 bound ns (omega arith) small low))
+    ∙ decimals-numbers_within bound ns small low
+
+-- it has no byte below the digits but the comma
+pub IsFree-numbers_text : (mark bound : ℕ) (ns : List ℕ) → mark < 48 → (44 == mark) ≡ false → bound < 2 ^ 64 → All (λ n. n ≤ bound) ns → IsFree mark (numbers_text ns)
+IsFree-numbers_text mark bound ns h comma small low =
+    IsFree-joined mark 44 (map decimal ns) comma (IsFree-decimals mark bound ns h small low)

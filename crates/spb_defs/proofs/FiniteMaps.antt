@@ -1,10 +1,10 @@
 -- A line leaves a finite map of no more members than there may be.
-use Rattle.std.proofs.Common.{◌≡◌, ℕ, ◌+◌, ◌≤◌, ◌<◌, Bool, true, false, Result, Ok, Err, List, [], ◌∷◌, length, refl, ap, ◌∙◌, arith}
+use Rattle.std.proofs.Common.{◌≡◌, ℕ, ◌+◌, ◌≤◌, ◌<◌, Bool, true, false, cond, Result, Ok, Err, List, [], ◌∷◌, length, refl, ap, ◌∙◌, arith}
 use Rattle.std.specs.Prelude.{is_some, if◌then◌else◌}
 use Rattle.std.specs.List.{AllByRecursion}
 use Rattle.std.specs.List.Sorted.{IsStrictlySortedBy}
-use Rattle.std.specs.Map.{keys_of}
-use Rattle.std.specs.BTreeMap.{insert_entry}
+use Rattle.std.specs.Map.{keys_of, remove_entry}
+use Rattle.std.specs.BTreeMap.{is_at, insert_entry}
 use Rattle.std.specs.Ordering.{ordering_reverse, match_ordering}
 use Rattle.std.specs.Cmp.{IsTotalOrder}
 use Rattle.std.specs.declared.cmp.Ordering.{Ordering}
@@ -17,11 +17,11 @@ use Rattle.spb_edge.specs.declared.reader.Line.TheVariants as line
 use Rattle.spb_defs.specs.declared.Command.{Command}
 use Rattle.spb_defs.specs.declared.Command.TheVariants as command
 use Rattle.spb_defs.specs.declared.What.{What}
-use Rattle.spb_defs.specs.State.{Key, key_cmp, State, empty_in_memory, object_at, is_full, with_object, IsFiniteMap}
+use Rattle.spb_defs.specs.State.{Key, key_cmp, State, empty_in_memory, closed, object_at, is_full, with_object, without_object, IsFiniteMap}
 use Rattle.spb_defs.specs.Grammar.{command_of}
 use Rattle.spb_defs.specs.Step.{after, after_read, next}
 
-key_order : IsTotalOrder key_cmp
+pub key_order : IsTotalOrder key_cmp
 key_order = then_total (on_total (λ (k : Key). k.0) nat_cmp_total) (on_total (λ (k : Key). k.1) nat_cmp_total)
 
 -- ---- an entry put in its place
@@ -65,16 +65,49 @@ module _ {K X : Type 0} {R : K → K → Ordering} (o : IsTotalOrder R) (k : K) 
   longer [] = omega arith
   longer (e ∷ es) = let more = longer_at e es (R k e.0) (longer es) in omega (arith, more)
 
+-- ---- an entry taken out
+
+module _ {K X : Type 0} (test : K → Bool) where
+  all_cut_at : (P : K → Type 0) (b : Bool) (e : K × X) (es : List (K × X)) → P e.0 → AllByRecursion P (keys_of es) → AllByRecursion P (keys_of (remove_entry test es)) → AllByRecursion P (keys_of (cond b es (e ∷ remove_entry test es)))
+  all_cut_at P true e es first all less = all
+  all_cut_at P false e es first all less = (first, less)
+
+  all_cut : (P : K → Type 0) (es : List (K × X)) → AllByRecursion P (keys_of es) → AllByRecursion P (keys_of (remove_entry test es))
+  all_cut P [] all = all
+  all_cut P (e ∷ es) all = all_cut_at P (test e.0) e es all.0 all.1 (all_cut P es all.1)
+
+  shorter_at : (b : Bool) (e : K × X) (es : List (K × X)) → length (remove_entry test es) ≤ length es → length (cond b es (e ∷ remove_entry test es)) ≤ length es + 1
+  shorter_at true e es less = omega arith
+  shorter_at false e es less = omega (arith, less)
+
+  pub shorter : (es : List (K × X)) → length (remove_entry test es) ≤ length es
+  shorter [] = omega arith
+  shorter (e ∷ es) = let less = shorter_at (test e.0) e es (shorter es) in omega (arith, less)
+
+module _ {K X : Type 0} (R : K → K → Ordering) (test : K → Bool) where
+  cut_at : (b : Bool) (e : K × X) (es : List (K × X)) → AllByRecursion (λ y. R e.0 y ≡ Less) (keys_of es) → IsStrictlySortedBy R (keys_of es) → IsStrictlySortedBy R (keys_of (remove_entry test es)) → IsStrictlySortedBy R (keys_of (cond b es (e ∷ remove_entry test es)))
+  unfolding IsStrictlySortedBy
+  cut_at true e es first rise less = rise
+  cut_at false e es first rise less = (all_cut test (λ y. R e.0 y ≡ Less) es first, less)
+
+  pub cut_sorted : (es : List (K × X)) → IsStrictlySortedBy R (keys_of es) → IsStrictlySortedBy R (keys_of (remove_entry test es))
+  unfolding IsStrictlySortedBy
+  cut_sorted [] rise = rise
+  cut_sorted (e ∷ es) rise = cut_at (test e.0) e es rise.0 rise.1 (cut_sorted es rise.1)
+
 -- ---- the states
 
-pub finite_at_first : (space : Space) → IsFiniteMap (empty_in_memory space)
+pub finite_at_first : (space : Space) (wanted : ℕ) → IsFiniteMap (empty_in_memory space wanted)
 unfolding IsStrictlySortedBy
-finite_at_first space = record { order = tt; room = omega arith }
+finite_at_first space wanted = record { order = tt; room = omega arith }
 
 with_one : (s : State) (c id : ℕ) (object : List ℕ) → length s.members < s.cap → IsFiniteMap s → IsFiniteMap (record s { members = with_object s.members c id object })
 with_one s c id object room map =
     let long = longer key_order (c, id) object s.members in
     record { order = sorted key_order (c, id) object s.members map.order; room = omega (arith, long) }
+
+finite_closed : (s : State) → IsFiniteMap s → IsFiniteMap (closed s)
+finite_closed s map = record { order = map.order; room = map.room }
 
 finite_by_add : (there full : Bool) (s : State) (c id : ℕ) (object : List ℕ) → is_full s ≡ full → IsFiniteMap s
     → IsFiniteMap (if there then s else (if full then s else record s { members = with_object s.members c id object }))
@@ -82,10 +115,23 @@ finite_by_add true full s c id object at map = map
 finite_by_add false true s c id object at map = map
 finite_by_add false false s c id object at map = with_one s c id object (grind (arith, nat_tests, at)) map
 
+finite_by_drop : (there : Bool) (s : State) (c id : ℕ) → IsFiniteMap s → IsFiniteMap (if there then record s { members = without_object s.members c id } else s)
+finite_by_drop true s c id map =
+    let less = shorter (is_at (key_cmp (c, id))) s.members in
+    let room = map.room in
+    record { order = cut_sorted key_cmp (is_at (key_cmp (c, id))) s.members map.order; room = omega (arith, less, room) }
+finite_by_drop false s c id map = map
+
 finite_by : (s : State) (c : Command) → IsFiniteMap s → IsFiniteMap (after s c)
 unfolding after
-finite_by s (command.Add c id object) map = finite_by_add (is_some (object_at s c id)) (is_full s) s c id object refl map
-finite_by s (command.Range c r object) map = map
+finite_by s (command.Sample object) map = record { order = map.order; room = map.room }
+finite_by s (command.Add c id object) map = let t = closed s in finite_by_add (is_some (object_at t c id)) (is_full t) t c id object refl (finite_closed s map)
+finite_by s (command.Discard c id) map = let t = closed s in finite_by_drop (is_some (object_at t c id)) t c id (finite_closed s map)
+finite_by s (command.Get c id) map = finite_closed s map
+finite_by s (command.Count c) map = finite_closed s map
+finite_by s (command.Range c r object) map = finite_closed s map
+finite_by s (command.Near c k object) map = finite_closed s map
+finite_by s (command.Join c d r) map = finite_closed s map
 
 finite_by_read : (s : State) (read : Result Command What) → IsFiniteMap s → IsFiniteMap (after_read s read)
 finite_by_read s (Ok c) map = finite_by s c map

@@ -1,4 +1,6 @@
+pub use Rattle.answer_lists.specs.Order
 pub mod Pivots
+pub mod Choice
 pub mod Scans
 pub mod State
 pub mod Numbers

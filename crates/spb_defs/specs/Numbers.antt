@@ -15,6 +15,11 @@ abbrev pub at_most : ℕ → Option ℕ → Option ℕ
 at_most bound None = None
 at_most bound (Some n) = if nat_le n bound then Some n else None
 
+-- a number, where it is at least the bound
+abbrev pub at_least : ℕ → Option ℕ → Option ℕ
+at_least bound None = None
+at_least bound (Some n) = if nat_le bound n then Some n else None
+
 -- the number that the word spells, where it is at most the bound
 abbrev pub number_within : ℕ → List ℕ → Option ℕ
 number_within bound word = at_most bound (number_of word)

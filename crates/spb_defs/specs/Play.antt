@@ -10,7 +10,7 @@ use Rattle.spb_defs.specs.ReplyText.{reply_text}
 -- the replies to the lines from a state on
 abbrev pub play_lines : State → List Line → List ℕ
 play_lines s [] = []
-play_lines s (line ∷ lines) = reply_text (reply s line) ++ play_lines (next s line) lines
+play_lines s (line ∷ lines) = reply_text s.space (reply s line) ++ play_lines (next s line) lines
 
 -- the replies to a script from a state on
 abbrev pub play : State → List ℕ → List ℕ

@@ -3,7 +3,9 @@ use Rattle.std.specs.Prelude.{ℕ, List, [], ◌∷◌, ◌++◌, length, codes}
 use Rattle.std.specs.List.{flat_map}
 use Rattle.std.specs.Fmt.{decimal}
 use Rattle.spb_defs.specs.declared.Reply.{Reply}
-use Rattle.spb_defs.specs.declared.Reply.TheVariants.{Done, Exists, Full, Range, Bad, Long}
+use Rattle.spb_defs.specs.declared.Reply.TheVariants.{Done, Exists, Absent, Full, Curve, Late, Object, Count, Range, Near, Join, Bad, Long}
+use Rattle.metrics_builtin.specs.declared.Space.{Space}
+use Rattle.spb_defs.specs.ObjectText.{text_of}
 use Rattle.spb_defs.specs.declared.What.{What}
 use Rattle.spb_defs.specs.declared.What.TheVariants as what
 
@@ -18,16 +20,41 @@ name_of what.Object = codes "object"
 abbrev pub id_text : ℕ → List ℕ
 id_text id = 32 ∷ decimal id
 
--- the line without its LF
-abbrev pub said : Reply → List ℕ
-said Done = codes "ok"
-said Exists = codes "exists"
-said Full = codes "full"
-said (Range ids evals sure) =
+-- a rank stands as its id and its distance
+abbrev pub rank_text : ℕ × ℕ → List ℕ
+rank_text rank = 32 ∷ decimal rank.1 ++ 64 ∷ decimal rank.0
+
+abbrev pub pair_text : ℕ × ℕ → List ℕ
+pair_text pair = 32 ∷ decimal pair.0 ++ 45 ∷ decimal pair.1
+
+abbrev pub range_text : List ℕ → ℕ → ℕ → List ℕ
+range_text ids evals sure =
     codes "range " ++ decimal (length ids) ++ codes " evals " ++ decimal evals ++ codes " sure " ++ decimal sure ++ codes ":"
     ++ flat_map id_text ids
-said (Bad failed) = codes "bad " ++ name_of failed
-said Long = codes "long"
 
-unfoldable pub reply_text : Reply → List ℕ
-reply_text reply = said reply ++ 10 ∷ []
+abbrev pub near_text : List (ℕ × ℕ) → ℕ → List ℕ
+near_text rows evals = codes "near " ++ decimal (length rows) ++ codes " evals " ++ decimal evals ++ codes ":" ++ flat_map rank_text rows
+
+abbrev pub join_text : List (ℕ × ℕ) → ℕ → ℕ → List ℕ
+join_text pairs evals sure =
+    codes "join " ++ decimal (length pairs) ++ codes " evals " ++ decimal evals ++ codes " sure " ++ decimal sure ++ codes ":"
+    ++ flat_map pair_text pairs
+
+-- the line without its LF
+abbrev pub said : Space → Reply → List ℕ
+said space Done = codes "ok"
+said space Exists = codes "exists"
+said space Absent = codes "absent"
+said space Full = codes "full"
+said space Curve = codes "curve"
+said space Late = codes "late"
+said space (Object object) = codes "object " ++ text_of space object
+said space (Count many) = codes "count " ++ decimal many
+said space (Range ids evals sure) = range_text ids evals sure
+said space (Near rows evals) = near_text rows evals
+said space (Join pairs evals sure) = join_text pairs evals sure
+said space (Bad failed) = codes "bad " ++ name_of failed
+said space Long = codes "long"
+
+unfoldable pub reply_text : Space → Reply → List ℕ
+reply_text space reply = said space reply ++ 10 ∷ []

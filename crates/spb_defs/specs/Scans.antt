@@ -1,15 +1,17 @@
 -- What scanning all objects of a collection answers, for any distance, and the number of distances
 -- that the answer is worth.
-use Rattle.std.specs.Prelude.{ℕ, ◌+◌, ◌&&◌, not, nat_le, List, length, map, filter, count_by}
-use Rattle.spb_defs.specs.Pivots.{vector_of, meets, is_sure}
+use Rattle.std.specs.Prelude.{ℕ, ◌+◌, ◌-◌, ◌&&◌, ◌++◌, Bool, true, not, nat_lt, nat_le, List, length, take, map, filter, count_by, Option, Some, None, if◌then◌else◌}
+use Rattle.std.specs.List.{flat_map, slice_get}
+use Rattle.answer_lists.specs.Order.{goes_before, arranged}
+use Rattle.spb_defs.specs.Pivots.{vector_of, meets, is_sure, lower_bound}
 
 -- an object of a collection with its id
 abbrev pub Row : Type 0
 Row = ℕ × List ℕ
 
--- the ids of the rows whose object is within the radius of the query, in the rows' order
+-- the ids of the rows whose object is within the radius of the query, rising
 unfoldable pub scan_range : (List ℕ → List ℕ → ℕ) → List Row → List ℕ → ℕ → List ℕ
-scan_range dist rows query radius = map (λ row. row.0) (filter (λ row. nat_le (dist query row.1) radius) rows)
+scan_range dist rows query radius = arranged nat_lt (map (λ row. row.0) (filter (λ row. nat_le (dist query row.1) radius) rows))
 
 -- how many rows are within the radius by the pivots alone
 unfoldable pub range_sure : (List ℕ → List ℕ → ℕ) → List (List ℕ) → List Row → List ℕ → ℕ → ℕ
@@ -17,10 +19,83 @@ range_sure dist pivots rows query radius =
     let asked = vector_of dist pivots query in
     count_by (λ row. meets asked radius (vector_of dist pivots row.1) && is_sure asked radius (vector_of dist pivots row.1)) rows
 
--- how many distances are evaluated: one for each pivot, and one for each row of which the pivots
--- don't tell
-unfoldable pub range_evals : (List ℕ → List ℕ → ℕ) → List (List ℕ) → List Row → List ℕ → ℕ → ℕ
-range_evals dist pivots rows query radius =
+-- the pivots don't tell whether the row is within the radius of the query
+abbrev pub is_open : (List ℕ → List ℕ → ℕ) → List (List ℕ) → List ℕ → ℕ → Row → Bool
+is_open dist pivots query radius row =
     let asked = vector_of dist pivots query in
-    length pivots
-    + count_by (λ row. meets asked radius (vector_of dist pivots row.1) && not (is_sure asked radius (vector_of dist pivots row.1))) rows
+    meets asked radius (vector_of dist pivots row.1) && not (is_sure asked radius (vector_of dist pivots row.1))
+
+-- how many distances are evaluated: one for each pivot, and one for each row of which the pivots don't tell
+unfoldable pub range_evals : (List ℕ → List ℕ → ℕ) → List (List ℕ) → List Row → List ℕ → ℕ → ℕ
+range_evals dist pivots rows query radius = length pivots + count_by (is_open dist pivots query radius) rows
+
+-- the objects that are evaluated, in the rows' order: first the pivots
+unfoldable pub range_visits : (List ℕ → List ℕ → ℕ) → List (List ℕ) → List Row → List ℕ → ℕ → List (List ℕ)
+range_visits dist pivots rows query radius = pivots ++ map (λ row. row.1) (filter (is_open dist pivots query radius) rows)
+
+-- ---- the nearest
+
+-- the distance of each row's object from the query, with its id
+abbrev pub ranks_of : (List ℕ → List ℕ → ℕ) → List Row → List ℕ → List (ℕ × ℕ)
+ranks_of dist rows query = map (λ row. (dist query row.1, row.0)) rows
+
+-- the first k of all rows, by distance and then by id
+unfoldable pub scan_near : (List ℕ → List ℕ → ℕ) → List Row → List ℕ → ℕ → List (ℕ × ℕ)
+scan_near dist rows query k = take k (arranged goes_before (ranks_of dist rows query))
+
+-- the k-th of all rows, if there are so many
+abbrev pub kth_rank : (List ℕ → List ℕ → ℕ) → List Row → List ℕ → ℕ → Option (ℕ × ℕ)
+kth_rank dist rows query k = slice_get (arranged goes_before (ranks_of dist rows query)) (k - 1)
+
+-- the least rank that the pivots leave a row: its bound, with its id
+abbrev pub bound_of : (List ℕ → List ℕ → ℕ) → List (List ℕ) → List ℕ → Row → ℕ × ℕ
+bound_of dist pivots query row = (lower_bound (vector_of dist pivots query) (vector_of dist pivots row.1), row.0)
+
+-- the pivots don't put the row behind the last rank; where there is none, none is behind it
+abbrev pub is_not_behind : (List ℕ → List ℕ → ℕ) → List (List ℕ) → List ℕ → Option (ℕ × ℕ) → Row → Bool
+is_not_behind dist pivots query None row = true
+is_not_behind dist pivots query (Some last) row = not (goes_before last (bound_of dist pivots query row))
+
+-- how many distances are evaluated: one for each pivot, and one for each row whose bound and id the pivots
+-- don't put behind the k-th rank
+unfoldable pub near_evals : (List ℕ → List ℕ → ℕ) → List (List ℕ) → List Row → List ℕ → ℕ → ℕ
+near_evals dist pivots rows query k = length pivots + count_by (is_not_behind dist pivots query (kth_rank dist rows query k)) rows
+
+-- the objects that are evaluated: first the pivots, then the rows by their bound and id
+unfoldable pub near_visits : (List ℕ → List ℕ → ℕ) → List (List ℕ) → List Row → List ℕ → ℕ → List (List ℕ)
+near_visits dist pivots rows query k =
+    pivots
+    ++ map (λ row. row.1)
+    (arranged (λ a b. goes_before (bound_of dist pivots query a) (bound_of dist pivots query b))
+    (filter (is_not_behind dist pivots query (kth_rank dist rows query k)) rows))
+
+-- ---- the pairs
+
+-- all pairs of a row on the left and a row on the right
+abbrev pub product : List Row → List Row → List (Row × Row)
+product left right = flat_map (λ a. map (λ b. (a, b)) right) left
+
+-- the pairs that a join looks at: all, or within one collection those with the lesser id on the left
+abbrev pub considered : Bool → List Row → List Row → List (Row × Row)
+considered same left right = if same then filter (λ p. nat_lt p.0.0 p.1.0) (product left right) else product left right
+
+-- the ids of the pairs whose objects are within the radius of each other, in order
+unfoldable pub scan_join : (List ℕ → List ℕ → ℕ) → List (Row × Row) → ℕ → List (ℕ × ℕ)
+scan_join dist pairs radius = arranged goes_before (map (λ p. (p.0.0, p.1.0)) (filter (λ p. nat_le (dist p.0.1 p.1.1) radius) pairs))
+
+-- how many pairs are within the radius by the pivots alone
+unfoldable pub join_sure : (List ℕ → List ℕ → ℕ) → List (List ℕ) → List (Row × Row) → ℕ → ℕ
+join_sure dist pivots pairs radius =
+    count_by (λ p. meets (vector_of dist pivots p.0.1) radius (vector_of dist pivots p.1.1) && is_sure (vector_of dist pivots p.0.1) radius (vector_of dist pivots p.1.1)) pairs
+
+-- the pivots don't tell whether the objects of the pair are within the radius of each other
+abbrev pub is_open_pair : (List ℕ → List ℕ → ℕ) → List (List ℕ) → ℕ → Row × Row → Bool
+is_open_pair dist pivots radius p = is_open dist pivots p.0.1 radius p.1
+
+-- how many distances are evaluated: one for each pair of which the pivots don't tell
+unfoldable pub join_evals : (List ℕ → List ℕ → ℕ) → List (List ℕ) → List (Row × Row) → ℕ → ℕ
+join_evals dist pivots pairs radius = count_by (is_open_pair dist pivots radius) pairs
+
+-- the pairs of objects that are measured
+unfoldable pub join_visits : (List ℕ → List ℕ → ℕ) → List (List ℕ) → List (Row × Row) → ℕ → List (List ℕ × List ℕ)
+join_visits dist pivots pairs radius = map (λ p. (p.0.1, p.1.1)) (filter (is_open_pair dist pivots radius) pairs)

@@ -1,13 +1,15 @@
 -- The state of a store: what every command is answered from.
-use Rattle.std.specs.Prelude.{ℕ, ◌==◌, ◌≤◌, Bool, nat_le, List, [], length, Option, Some, None, if◌then◌else◌}
+use Rattle.std.specs.Prelude.{ℕ, ◌==◌, ◌≤◌, Bool, true, nat_le, List, [], length, min, count_by, Option, Some, None, if◌then◌else◌}
 use Rattle.std.specs.List.{filter_map}
 use Rattle.std.specs.List.Sorted.{IsStrictlySortedBy}
-use Rattle.std.specs.Map.{lookup, keys_of}
+use Rattle.std.specs.Map.{lookup, remove_entry, keys_of}
 use Rattle.std.specs.BTreeMap.{is_at, insert_entry}
 use Rattle.std.specs.Ordering.{nat_cmp, ordering_then}
 use Rattle.std.specs.declared.cmp.Ordering.{Ordering}
 use Rattle.metrics_builtin.specs.declared.Space.{Space}
 use Rattle.spb_defs.specs.declared.TheConstants.{MEMORY_CAP}
+use Rattle.metrics_builtin.specs.Space.{dist}
+use Rattle.spb_defs.specs.Choice.{chosen_samples}
 use Rattle.spb_defs.specs.Scans.{Row}
 
 -- a collection and an id
@@ -22,16 +24,30 @@ key_cmp a b = ordering_then (nat_cmp a.0 b.0) (nat_cmp a.1 b.1)
 abbrev pub Members : Type 0
 Members = List (Key × List ℕ)
 
--- a space, the pivots, the most members that there may be, and the members
+-- a space, how many pivots are wanted, the pivots, whether pairs may be asked for, the most members that there may
+-- be, the samples while they are kept, and the members
 pub record State : Type 0 where
   pub space : Space
+  pub wanted : ℕ
   pub pivots : List (List ℕ)
+  pub joins : Bool
   pub cap : ℕ
+  pub samples : Option (List (List ℕ))
   pub members : Members
 
--- the store in memory before the first line
-abbrev pub empty_in_memory : Space → State
-empty_in_memory space = record { space = space; pivots = []; cap = MEMORY_CAP; members = [] }
+-- the store in memory before the first line, where so many pivots are wanted
+abbrev pub empty_in_memory : Space → ℕ → State
+empty_in_memory space wanted =
+    record { space = space; wanted = wanted; pivots = []; joins = true; cap = MEMORY_CAP; samples = Some []; members = [] }
+
+-- the pivots once the samples are closed: those chosen from the samples, as many as are wanted or as there are
+abbrev pub pivots_by : State → Option (List (List ℕ)) → List (List ℕ)
+pivots_by s None = s.pivots
+pivots_by s (Some kept) = chosen_samples (dist s.space) kept (min s.wanted (length kept))
+
+-- the state with its samples closed
+abbrev pub closed : State → State
+closed s = record s { pivots = pivots_by s s.samples; samples = None }
 
 -- the object under a key
 abbrev pub object_at : State → ℕ → ℕ → Option (List ℕ)
@@ -44,6 +60,14 @@ is_full s = nat_le s.cap (length s.members)
 -- the members with the object under the key
 abbrev pub with_object : Members → ℕ → ℕ → List ℕ → Members
 with_object members c id object = insert_entry key_cmp members (c, id) object
+
+-- the members without what is under the key
+abbrev pub without_object : Members → ℕ → ℕ → Members
+without_object members c id = remove_entry (is_at (key_cmp (c, id))) members
+
+-- how many members the collection has
+abbrev pub count_of : Members → ℕ → ℕ
+count_of members c = count_by (λ member. member.0.0 == c) members
 
 -- the members are a finite map, and no more than there may be
 pub record IsFiniteMap (s : State) : Type 0 where

@@ -4,16 +4,17 @@
 //! that they share with the code.
 #![tactic(auto)]
 
-ghost use Rattle.std.specs.Prelude.{◌≡◌, [], ◌∷◌, codes};
-ghost use Rattle.std.specs.List.{flat_map};
+ghost use Rattle.std.specs.Prelude.{◌≡◌, ◌⊎◌, ◌≤◌, ℕ, [], ◌∷◌, ◌++◌, codes};
 ghost use Rattle.spb_defs.specs.Play.{play};
 ghost use Rattle.spb_edge.specs.declared.reader.Line.{Line};
 ghost use Rattle.metrics_builtin.specs.declared.Space.{Space};
-ghost use Rattle.spb_defs.specs.State.{State, IsFiniteMap, empty_in_memory};
-ghost use Rattle.spb_defs.specs.Step.{reply, next, IsRefusal};
-ghost use Rattle.spb_defs.specs.Rows.{AreAnswered, ended, plane, with_pivots};
+ghost use Rattle.spb_defs.specs.State.{State, IsFiniteMap, closed, empty_in_memory};
+ghost use Rattle.spb_defs.specs.Step.{reply, next, IsRefusal, ClosesSamples};
+ghost use Rattle.spb_defs.specs.Rows.{AreAnswered, AreAnsweredWith, three_samples, thrice_ok, ended, plane};
 
-use spb_edge::{Bytes, Ids};
+use answer_lists::{Ids, Pairs, Ranks};
+use metrics_builtin::Space;
+use spb_edge::Bytes;
 
 /// The longest line, in bytes without its LF.
 pub const LINE_LIMIT: usize = 16_384;
@@ -21,13 +22,42 @@ pub const LINE_LIMIT: usize = 16_384;
 /// The most objects of a store in memory, over all collections.
 pub const MEMORY_CAP: usize = 65_536;
 
-/// A line that is a command.
+/// The most samples that are kept.
+pub const SAMPLE_LIMIT: usize = 4_096;
+
+/// The most ranks that are asked for at once.
+pub const NEAR_LIMIT: u32 = 65_536;
+
+/// The most pivots of a store.
+pub const PIVOT_LIMIT: u64 = 8;
+
+/// The store in memory that the words of the program ask for: its space, and how many pivots are wanted,
+/// 0 to 8.
+#[derive(Clone, Copy, Debug, PartialEq, Eq)]
+pub struct MemorySetup {
+    pub space: Space,
+    pub pivots: u8,
+}
+
+/// A line that is a command. A collection `c` or `d` is 0 to 3.
 #[derive(Debug, Drop)]
 pub enum Command {
-    /// Adds the object to collection `c`, 0 to 3, under the id.
+    /// Keeps the object as a sample.
+    Sample { object: Bytes },
+    /// Adds the object to collection `c` under the id.
     Add { c: u8, id: u32, object: Bytes },
+    /// Takes the object with the id out of collection `c`.
+    Discard { c: u8, id: u32 },
+    /// Asks for the object of collection `c` with the id.
+    Get { c: u8, id: u32 },
+    /// Asks how many objects collection `c` has.
+    Count { c: u8 },
     /// Asks for the ids of collection `c` within the radius `r` of the object.
     Range { c: u8, r: u32, object: Bytes },
+    /// Asks for the `k` ids of collection `c` that are nearest to the object, 1 to 65536.
+    Near { c: u8, k: u32, object: Bytes },
+    /// Asks for the pairs of an id of collection `c` and one of `d` within the radius `r` of each other.
+    Join { c: u8, d: u8, r: u32 },
 }
 
 /// What fails first in a line that is no command.
@@ -39,7 +69,7 @@ pub enum What {
     Collection,
     /// An id that isn't a number of at most 4294967295.
     Id,
-    /// A radius that isn't such a number.
+    /// A radius that isn't such a number, or a number of ranks that isn't 1 to 65536.
     Number,
     /// A text that isn't that of an object of the space.
     Object,
@@ -48,16 +78,32 @@ pub enum What {
 /// What a line is answered.
 #[derive(Debug, Drop)]
 pub enum Reply {
-    /// The change was made.
+    /// The change was made, or the sample was kept.
     Done,
     /// The collection has the id already.
     Exists,
-    /// The store has as many objects as it may have.
+    /// The collection doesn't have the id.
+    Absent,
+    /// The store has as many objects as it may have, or there are as many samples.
     Full,
+    /// The store's curve isn't one to join over.
+    Curve,
+    /// The samples are closed.
+    Late,
+    /// The object that was asked for.
+    Object(Bytes),
+    /// How many objects the collection has.
+    Count(u32),
     /// The ids within the radius, rising; how many distances are evaluated; how many objects are
     /// within without one.
     Range { ids: Ids, evals: u64, sure: u64 },
-    /// The line is no command.
+    /// The nearest, each as its distance and id, by distance and then by id; how many distances are
+    /// evaluated.
+    Near { rows: Ranks, evals: u64 },
+    /// The pairs of ids within the radius, in order; how many distances are evaluated; how many pairs are
+    /// within without one.
+    Join { pairs: Pairs, evals: u64, sure: u64 },
+    /// The line is no command, and this fails first in it.
     Bad(What),
     /// The line is too long.
     Long,
@@ -71,39 +117,75 @@ pub fn worked_rows()
         (codes "ok" ∷ codes "range 1 evals 1 sure 0: 1" ∷ []) }
     ensures exists { AreAnswered
         (codes "add 0 1 0,0" ∷ codes "add 0 1 5,5" ∷ codes "get 0 1" ∷ codes "range 0 5 3,4" ∷ [])
-        (codes "ok" ∷ codes "exists" ∷ codes "bad command" ∷ codes "range 0 evals 1 sure 0:" ∷ []) }
+        (codes "ok" ∷ codes "exists" ∷ codes "object 0,0" ∷ codes "range 0 evals 1 sure 0:" ∷ []) }
     ensures within { AreAnswered
         (codes "add 1 7 0,1" ∷ codes "add 1 3 9,9" ∷ codes "add 2 1 0,0" ∷ codes "add 1 4294967295 1,0" ∷ codes "range 1 1 0,0" ∷ [])
         (codes "ok" ∷ codes "ok" ∷ codes "ok" ∷ codes "ok" ∷ codes "range 2 evals 3 sure 0: 7 4294967295" ∷ []) }
     ensures refused { AreAnswered
-        (codes "" ∷ codes "add 0 6 256,0" ∷ codes "add 4 6 1,1" ∷ codes "add 0 06 1,1" ∷ codes "add 0 1" ∷ codes "range 0 -1 3,0" ∷ [])
-        (codes "bad command" ∷ codes "bad command" ∷ codes "bad command" ∷ codes "bad command" ∷ codes "bad command" ∷ codes "bad command" ∷ []) }
+        (codes "" ∷ codes "add 0 6 256,0" ∷ codes "add 4 6 1,1" ∷ codes "add 0 06 1,1" ∷ codes "add 0 1" ∷ codes "range 0 -1 3,0"
+        ∷ codes "near 0 0 3,0" ∷ codes "near 0 65537 3,0" ∷ codes "fetch 0 1" ∷ codes "add 9 06 x" ∷ [])
+        (codes "bad command" ∷ codes "bad object" ∷ codes "bad collection" ∷ codes "bad id" ∷ codes "bad command" ∷ codes "bad number"
+        ∷ codes "bad number" ∷ codes "bad number" ∷ codes "bad command" ∷ codes "bad collection" ∷ []) }
+    ensures dropped { AreAnswered
+        (codes "add 0 2 3,4" ∷ codes "drop 0 77" ∷ codes "get 0 2" ∷ codes "count 0" ∷ codes "get 3 2" ∷ codes "drop 0 2" ∷ codes "count 0" ∷ [])
+        (codes "ok" ∷ codes "absent" ∷ codes "object 3,4" ∷ codes "count 1" ∷ codes "absent" ∷ codes "ok" ∷ codes "count 0" ∷ []) }
+    ensures sampled { AreAnswered
+        (codes "sample 0,0" ∷ codes "bad" ∷ codes "sample 1,1" ∷ codes "count 0" ∷ codes "sample 1,1" ∷ codes "sample 256,0" ∷ [])
+        (codes "ok" ∷ codes "bad command" ∷ codes "ok" ∷ codes "count 0" ∷ codes "late" ∷ codes "bad object" ∷ []) }
+    // Without pivots all are evaluated, but those behind a last rank at distance 0.
+    ensures nearest { AreAnswered
+        (codes "add 0 1 0,0" ∷ codes "add 0 2 3,4" ∷ codes "add 0 3 10,0" ∷ codes "add 0 4 3,0" ∷ codes "near 0 2 3,1" ∷ codes "near 0 1 3,4" ∷ codes "near 0 9 3,0" ∷ codes "near 1 1 0,0" ∷ [])
+        (codes "ok" ∷ codes "ok" ∷ codes "ok" ∷ codes "ok" ∷ codes "near 2 evals 4: 4@1 2@3" ∷ codes "near 1 evals 2: 2@0" ∷ codes "near 4 evals 4: 4@0 1@3 2@4 3@7" ∷ codes "near 0 evals 0:" ∷ []) }
+    ensures joined { AreAnswered
+        (codes "add 0 1 0,0" ∷ codes "add 0 2 3,4" ∷ codes "add 1 1 1,1" ∷ codes "add 1 9 3,5" ∷ codes "join 0 1 3" ∷ codes "join 1 0 3" ∷ codes "join 0 0 7" ∷ codes "join 0 2 x" ∷ [])
+        (codes "ok" ∷ codes "ok" ∷ codes "ok" ∷ codes "ok" ∷ codes "join 2 evals 4 sure 0: 1-1 2-9" ∷ codes "join 2 evals 4 sure 0: 1-1 9-2" ∷ codes "join 1 evals 1 sure 0: 1-2" ∷ codes "bad number" ∷ []) }
     // Two pivots, 0,0 and 255,0, spare the distances that they tell.
-    ensures spared { play with_pivots (flat_map ended
-        (codes "add 0 1 0,0" ∷ codes "add 0 2 3,4" ∷ codes "add 0 3 10,0" ∷ codes "add 0 4 100,100" ∷ codes "add 0 5 255,0"
-        ∷ codes "range 0 8 3,0" ∷ codes "range 1 8 3,0" ∷ codes "range 0 4294967295 3,0" ∷ []))
-        ≡ flat_map ended (codes "ok" ∷ codes "ok" ∷ codes "ok" ∷ codes "ok" ∷ codes "ok"
-        ∷ codes "range 3 evals 4 sure 1: 1 2 3" ∷ codes "range 0 evals 2 sure 0:" ∷ codes "range 5 evals 2 sure 5: 1 2 3 4 5" ∷ []) }
+    ensures spared { AreAnsweredWith 2
+        (three_samples ++ codes "add 0 1 0,0" ∷ codes "add 0 2 3,4" ∷ codes "add 0 3 10,0" ∷ codes "add 0 4 100,100" ∷ codes "add 0 5 255,0"
+        ∷ codes "range 0 8 3,0" ∷ codes "range 1 8 3,0" ∷ codes "range 0 4294967295 3,0" ∷ codes "near 0 2 3,0" ∷ codes "near 0 9 3,0"
+        ∷ codes "sample 1,1" ∷ codes "sample 256,0" ∷ [])
+        (thrice_ok ++ codes "ok" ∷ codes "ok" ∷ codes "ok" ∷ codes "ok" ∷ codes "ok"
+        ∷ codes "range 3 evals 4 sure 1: 1 2 3" ∷ codes "range 0 evals 2 sure 0:" ∷ codes "range 5 evals 2 sure 5: 1 2 3 4 5"
+        ∷ codes "near 2 evals 4: 1@3 2@4" ∷ codes "near 5 evals 7: 1@3 2@4 3@7 4@197 5@252"
+        ∷ codes "late" ∷ codes "bad object" ∷ []) }
+    ensures paired { AreAnsweredWith 2
+        (three_samples ++ codes "add 0 1 0,0" ∷ codes "add 0 2 3,4" ∷ codes "add 1 1 1,1" ∷ codes "add 1 9 3,5" ∷ codes "join 0 1 3" ∷ [])
+        (thrice_ok ++ codes "ok" ∷ codes "ok" ∷ codes "ok" ∷ codes "ok" ∷ codes "join 2 evals 1 sure 1: 1-1 2-9" ∷ []) }
+    ensures twins { AreAnsweredWith 2
+        (three_samples ++ codes "add 0 1 7,7" ∷ codes "add 0 2 7,7" ∷ codes "join 0 0 0" ∷ codes "add 1 8 1,0" ∷ codes "add 1 7 0,1" ∷ codes "near 1 1 0,0" ∷ [])
+        (thrice_ok ++ codes "ok" ∷ codes "ok" ∷ codes "join 1 evals 1 sure 0: 1-2" ∷ codes "ok" ∷ codes "ok" ∷ codes "near 1 evals 3: 7@1" ∷ []) }
+    // An object whose bound is the distance of the last rank is evaluated where its id is less.
+    ensures tied { AreAnsweredWith 1
+        (codes "sample 0,0" ∷ codes "add 0 9 0,2" ∷ codes "add 0 3 6,0" ∷ codes "near 0 1 2,0" ∷ [])
+        (codes "ok" ∷ codes "ok" ∷ codes "ok" ∷ codes "near 1 evals 3: 3@4" ∷ []) }
+    // More pivots are wanted than there are samples, which are all equal.
+    ensures few { AreAnsweredWith 8
+        (codes "sample 5,5" ∷ codes "sample 5,5" ∷ codes "range 0 1 5,6" ∷ [])
+        (codes "ok" ∷ codes "ok" ∷ codes "range 0 evals 2 sure 0:" ∷ []) }
     // No LF ends the last line.
     ensures unended { play plane (codes "range 0 0 0,0") ≡ ended (codes "range 0 evals 0 sure 0:") }
 {}
 
-/// The limits that the definitions speak of: bytes of a line, and objects of a store in memory. The
-/// call does nothing.
+/// The limits that the definitions speak of: bytes of a line, objects of a store in memory, samples,
+/// ranks that are asked for at once, and pivots. The call does nothing.
 pub fn limits()
     ensures line { LINE_LIMIT ≡ 16384 }
     ensures objects { MEMORY_CAP ≡ 65536 }
+    ensures samples { SAMPLE_LIMIT ≡ 4096 }
+    ensures ranks { NEAR_LIMIT ≡ 65536 }
+    ensures pivots { PIVOT_LIMIT ≡ 8 }
 {}
 
-/// A line that is refused leaves the state as it was. The call does nothing.
+/// A line that is refused leaves the state as it was, but that a command other than a sample closes the
+/// samples. The call does nothing.
 pub fn refusals_change_nothing()
-    ensures { (s : State) (line : Line) → IsRefusal (reply s line) → next s line ≡ s }
+    ensures { (s : State) (line : Line) → IsRefusal (reply s line) → (next s line ≡ s) ⊎ (ClosesSamples s.space line × (next s line ≡ closed s)) }
 {}
 
 /// The members of an empty store in memory, and of each state that lines lead to from there, stand in
 /// rising order of their keys, each key once, and they are no more than there may be. The call does
 /// nothing.
 pub fn members_are_finite_maps()
-    ensures first { (space : Space) → IsFiniteMap (empty_in_memory space) }
+    ensures first { (space : Space) (wanted : ℕ) → IsFiniteMap (empty_in_memory space wanted) }
     ensures next { (s : State) (line : Line) → IsFiniteMap s → IsFiniteMap (next s line) }
 {}
