@@ -1,0 +1,4 @@
+pub mod Best
+pub mod Choosing
+pub mod Farthest
+pub mod Passing

@@ -1,0 +1,23 @@
+-- Rows: objects with their ids and their distances to the pivots.
+use Rattle.std.specs.Prelude.{◌≡◌, ◌≢◌, ℕ, ◌^◌, ◌≤◌, List, length, map, All, AllPairs}
+use Rattle.spb_defs.specs.Pivots.{vector_of}
+use Rattle.pivot_map.specs.declared.row.Row.{Row}
+
+-- the row's id and object
+abbrev pub entry_of : Row → ℕ × List ℕ
+entry_of row = (row.id, row.object)
+
+abbrev pub entries_of : List Row → List (ℕ × List ℕ)
+entries_of rows = map entry_of rows
+
+-- at most 8 objects that are measured
+pub record ArePivots (admitted : List ℕ → Type 0) (pivots : List (List ℕ)) : Type 0 where
+  pub few : length pivots ≤ 8
+  pub objects : All admitted pivots
+
+-- rows of objects that are measured, each with its distances to the pivots, and no two with one id
+pub record AreRows (admitted : List ℕ → Type 0) (dist : List ℕ → List ℕ → ℕ) (pivots : List (List ℕ)) (rows : List Row) : Type 0 where
+  pub few : length rows ≤ 2 ^ 31
+  pub objects : All (λ (row : Row). admitted row.object) rows
+  pub vects : All (λ (row : Row). row.vect ≡ vector_of dist pivots row.object) rows
+  pub ids : AllPairs (λ (a b : Row). a.id ≢ b.id) rows

@@ -1,0 +1,39 @@
+-- What the vectors of two objects tell of whether they are within a radius of each other.
+use Rattle.std.specs.Prelude.{◌≡◌, ℕ, ◌<◌, ◌≤◌, Bool, true, false, List}
+use Rattle.spb_defs.specs.Pivots.{meets, is_sure}
+use Rattle.pivot_map.specs.declared.verdict.PairTest.{PairTest}
+use Rattle.pivot_map.specs.declared.verdict.PairTest.TheVariants.{Apart, Open, Sure}
+
+-- what is told, by whether the two meet and whether that is sure
+abbrev pub verdict : Bool → Bool → PairTest
+verdict false sure = Apart
+verdict true false = Open
+verdict true true = Sure
+
+-- what the pivots tell: apart where the two don't meet, else sure where that is sure, else open
+abbrev pub pair_verdict : List ℕ → ℕ → List ℕ → PairTest
+pair_verdict a radius b = verdict (meets a radius b) (is_sure a radius b)
+
+-- the two tests, by what is told
+abbrev pub Tells : PairTest → Bool → Bool → Type 0
+Tells Apart met sure = met ≡ false
+Tells Open met sure = (met ≡ true) × (sure ≡ false)
+Tells Sure met sure = (met ≡ true) × (sure ≡ true)
+
+-- the distance has to be measured
+abbrev pub is_open_test : PairTest → Bool
+is_open_test Apart = false
+is_open_test Open = true
+is_open_test Sure = false
+
+-- the two are within the radius by the pivots alone
+abbrev pub is_sure_test : PairTest → Bool
+is_sure_test Apart = false
+is_sure_test Open = false
+is_sure_test Sure = true
+
+-- objects that are apart are further apart than the radius, those that are sure are within it
+abbrev pub Settles : PairTest → ℕ → ℕ → Type 0
+Settles Apart distance radius = radius < distance
+Settles Open distance radius = Unit {0}
+Settles Sure distance radius = distance ≤ radius

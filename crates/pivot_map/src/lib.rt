@@ -1,0 +1,18 @@
+//! Vectors of distances to pivots, and what they tell of a distance that wasn't measured.
+#![tactic(auto)]
+
+mod bounds;
+mod row;
+mod steps;
+#[cfg(test)]
+mod tests;
+mod vectors;
+mod verdict;
+
+pub use answer_lists::{Ids, Pairs, Ranks};
+pub use bounds::{bounds_hold, bounds_of_metric, verdicts_hold};
+pub use curve_laws::{Curve, Vect};
+pub use row::Row;
+pub use steps::Steps;
+pub use vectors::{lower, map_object, meets, sure};
+pub use verdict::{PairTest, pair_test, test_pair};

@@ -1,0 +1,45 @@
+//! What two vectors tell of whether their objects are within a radius of each other.
+ghost use Rattle.std.specs.Prelude.{◌≡◌, ◌+◌, length};
+ghost use Rattle.pivot_map.specs.Verdicts.{pair_verdict};
+
+use crate::steps::Steps;
+use crate::vectors::{meets, sure};
+use curve_laws::Vect;
+use std::sync::ledger::Ledger;
+
+/// What the distances of two objects to the pivots tell of whether the two are within a radius of each
+/// other.
+#[derive(Clone, Copy, Debug, PartialEq, Eq)]
+pub enum PairTest {
+    /// They aren't: some pivot shows that they are further apart.
+    Apart,
+    /// Their distance has to be measured.
+    Open,
+    /// They are: no pivot shows that they are further apart, and some pivot shows that they are not.
+    Sure,
+}
+
+/// Tests the pair by its vectors, which have one length. It looks at each coordinate once where the two
+/// are apart, and at most twice otherwise, and takes no memory.
+pub fn test_pair(a: &Vect, b: &Vect, r: u32) -> PairTest
+    requires { length a.now ≡ length b.now }
+    ensures { result ≡ pair_verdict a.now r b.now }
+{
+    if !meets(a, b, r) {
+        return PairTest::Apart;
+    }
+    if sure(a, b, r) {
+        return PairTest::Sure;
+    }
+    PairTest::Open
+}
+
+/// The same test, counted as one step.
+pub fn pair_test<L: Ledger>(a: &Vect, b: &Vect, r: u32, steps: &mut Steps<L>) -> PairTest
+    requires { length a.now ≡ length b.now }
+    ensures verdict { result ≡ pair_verdict a.now r b.now }
+    ensures cost { steps.new ≡ steps.old + 1 }
+{
+    steps.tick();
+    test_pair(a, b, r)
+}
