@@ -1,0 +1,128 @@
+-- What was looked at and what was left out make the answer that a scan gives.
+use Rattle.std.proofs.Common.{◌≡◌, ℕ, ◌+◌, ◌-◌, ◌≤◌, ◌<◌, Bool, true, false, Option, Some, None, List, [], ◌∷◌, ◌++◌, length, take, drop, get_or, suc, refl, sym, ap, ◌∙◌, append-nil, arith}
+use Rattle.std.specs.Prelude.{not, nat_le, if◌then◌else◌, map, filter, count_by, All, IsPermutation}
+use Rattle.std.specs.List.{AllByRecursion}
+use Rattle.std.specs.List.Sorted.{IsSortedBy}
+use Rattle.std.proofs.lemmas.List.{take-append-drop, get_or-map, map-append, length-map, length-take-le}
+use Rattle.std.proofs.lemmas.List.Elements.{recursion_from_All, All-take, All-drop, filter-append}
+use Rattle.std.proofs.lemmas.List.Sorted.{IsPermutation-map, sum_by-IsPermutation}
+use Rattle.std.proofs.lemmas.List.Sums.{length-filter}
+use Rattle.std.proofs.lemmas.Bool.Decides.{nat_tests}
+use Rattle.answer_lists.specs.Order.{goes_before, arranged}
+use Rattle.answer_lists.specs.OrderLaws as laws
+use Rattle.answer_lists.specs.OrderLaws.{Pair}
+use Rattle.metric_laws.specs.Log.{each_with}
+use Rattle.spb_defs.specs.Scans.{Row, ranks_of, scan_near, kth_rank, bound_of, is_not_behind, near_evals, near_visits}
+use Rattle.nn_query.specs.declared.queue.Candidate.{Candidate}
+use Rattle.nn_query.specs.Queue.{key_of, entry_at, entries_at, objects_at, before, Rises, Visited}
+use Rattle.nn_query.proofs.Counting.{in_order-arranged, arranged-permuted, past, past-is, before-arranged}
+
+-- ---- the ranks
+
+module _ (dist : List ℕ → List ℕ → ℕ) (query : List ℕ) where
+  abbrev rank_of : Row → Pair
+  rank_of row = (dist query row.1, row.0)
+
+  ranks-permuted : (rows others : List Row) → IsPermutation rows others → arranged goes_before (ranks_of dist others query) ≡ arranged goes_before (ranks_of dist rows query)
+  ranks-permuted rows others moved = arranged-permuted (ranks_of dist rows query) (ranks_of dist others query) (IsPermutation-map rank_of rows others moved)
+
+  pub nearest-found : (entries : List Row) (cs : List Candidate) (k n : ℕ) (least : List Pair) → IsPermutation entries (entries_at entries cs) → Visited dist entries query cs k n least → least ≡ scan_near dist entries query k
+  unfolding scan_near
+  nearest-found entries cs k n least moved visited = visited.first ∙ ap (take k) (ranks-permuted entries (entries_at entries cs) moved)
+
+  not_behind-is : (pivots : List (List ℕ)) (last : Option Pair) (row : Row) → is_not_behind dist pivots query last row ≡ not (past last (bound_of dist pivots query row))
+  not_behind-is pivots None row = refl
+  not_behind-is pivots (Some last) row = refl
+
+  -- whether a row is behind is told by how many ranks go before its bound
+  told : (pivots : List (List ℕ)) (rows : List Row) (k : ℕ) (row : Row) → 1 ≤ k → is_not_behind dist pivots query (kth_rank dist rows query k) row ≡ not (nat_le k (before (bound_of dist pivots query row) (ranks_of dist rows query)))
+  told pivots rows k row some =
+      let b = bound_of dist pivots query row in
+      let ranks = ranks_of dist rows query in
+      let one : suc (k - 1) ≡ k = omega (arith, some) in
+      not_behind-is pivots (kth_rank dist rows query k) row
+      ∙ ap not (past-is b (k - 1) (arranged goes_before ranks) (in_order-arranged ranks) ∙ ap (λ n. nat_le n (before b (arranged goes_before ranks))) one ∙ ap (nat_le k) (before-arranged b ranks))
+
+few : (k n : ℕ) → n < k → not (nat_le k n) ≡ true
+few k n h = grind (arith, nat_tests)
+
+many : (k n : ℕ) → k ≤ n → not (nat_le k n) ≡ false
+many k n h = grind (arith, nat_tests)
+
+-- ---- filters
+
+kept : {A B : Type 0} (p : B → Bool) (f : A → B) (xs : List A) → AllByRecursion (λ x. p (f x) ≡ true) xs → filter p (map f xs) ≡ map f xs
+kept p f [] all = refl
+kept p f (x ∷ xs) all = ap (λ (b : Bool). if b then f x ∷ filter p (map f xs) else filter p (map f xs)) all.0 ∙ ap (λ ys. f x ∷ ys) (kept p f xs all.1)
+
+dropped : {A B : Type 0} (p : B → Bool) (f : A → B) (xs : List A) → AllByRecursion (λ x. p (f x) ≡ false) xs → filter p (map f xs) ≡ []
+dropped p f [] all = refl
+dropped p f (x ∷ xs) all = ap (λ (b : Bool). if b then f x ∷ filter p (map f xs) else filter p (map f xs)) all.0 ∙ dropped p f xs all.1
+
+-- ---- what was looked at
+
+module _ (dist : List ℕ → List ℕ → ℕ) (pivots : List (List ℕ)) (query : List ℕ) (entries : List Row) (cs : List Candidate) (k n : ℕ) (least : List Pair)
+    (some : 1 ≤ k) (moved : IsPermutation entries (entries_at entries cs)) (keys : All (λ (c : Candidate). key_of c ≡ bound_of dist pivots query (entry_at entries c)) cs) (visited : Visited dist entries query cs k n least) where
+  abbrev pub in_reach : Row → Bool
+  in_reach = is_not_behind dist pivots query (kth_rank dist entries query k)
+
+  same-count : (b : Pair) → before b (ranks_of dist (entries_at entries cs) query) ≡ before b (ranks_of dist entries query)
+  same-count b = sum_by-IsPermutation _ _ _ (IsPermutation-map (rank_of dist query) entries (entries_at entries cs) moved)
+
+  reach-is : (c : Candidate) → key_of c ≡ bound_of dist pivots query (entry_at entries c) → in_reach (entry_at entries c) ≡ not (nat_le k (before (key_of c) (ranks_of dist (entries_at entries cs) query)))
+  reach-is c key =
+      told dist query pivots entries k (entry_at entries c) some
+      ∙ ap (λ m. not (nat_le k m)) (ap (λ b. before b (ranks_of dist entries query)) (sym key) ∙ sym (same-count (key_of c)))
+
+  inside : All (λ (c : Candidate). in_reach (entry_at entries c) ≡ true) (take n cs)
+  inside j d below = reach-is (get_or (take n cs) j d) (All-take (λ (c : Candidate). key_of c ≡ bound_of dist pivots query (entry_at entries c)) n cs keys j d below) ∙ few k _ (visited.looked_at j d below)
+
+  outside : All (λ (c : Candidate). in_reach (entry_at entries c) ≡ false) (drop n cs)
+  outside j d below = reach-is (get_or (drop n cs) j d) (All-drop (λ (c : Candidate). key_of c ≡ bound_of dist pivots query (entry_at entries c)) n cs keys j d below) ∙ many k _ (visited.left_out j d below)
+
+  -- those looked at are those in reach
+  pub reached : filter in_reach (entries_at entries cs) ≡ entries_at entries (take n cs)
+  reached =
+      ap (λ xs. filter in_reach (entries_at entries xs)) (sym (take-append-drop n cs))
+      ∙ ap (filter in_reach) (map-append (entry_at entries) (take n cs) (drop n cs))
+      ∙ filter-append in_reach (entries_at entries (take n cs)) (entries_at entries (drop n cs))
+      ∙ ap (λ xs. xs ++ filter in_reach (entries_at entries (drop n cs))) (kept in_reach (entry_at entries) (take n cs) (recursion_from_All _ _ inside))
+      ∙ ap (λ xs. entries_at entries (take n cs) ++ xs) (dropped in_reach (entry_at entries) (drop n cs) (recursion_from_All _ _ outside))
+      ∙ append-nil (entries_at entries (take n cs))
+
+  pub evals-found : length pivots + n ≡ near_evals dist pivots entries query k
+  unfolding near_evals
+  evals-found =
+      let a : count_by in_reach (entries_at entries cs) ≡ count_by in_reach entries = sum_by-IsPermutation _ _ _ moved in
+      let b : length (filter in_reach (entries_at entries cs)) ≡ count_by in_reach (entries_at entries cs) = length-filter in_reach (entries_at entries cs) in
+      let c : length (filter in_reach (entries_at entries cs)) ≡ n = ap length reached ∙ length-map (take n cs) (entry_at entries) ∙ length-take-le n cs visited.within in omega (arith, a, b, c)
+
+  -- the objects that are looked at are those in reach, by their bounds and ids
+  module _ (distinct : laws.HasDistinct (bound_of dist pivots query) entries) (rises : Rises cs) where
+    bound-at : (i : ℕ) (none : Candidate) (d : Row) → i < length cs → key_of (get_or cs i none) ≡ bound_of dist pivots query (get_or (entries_at entries cs) i d)
+    bound-at i none d inside = keys i none inside ∙ ap (bound_of dist pivots query) (sym (get_or-map (entry_at entries) cs i none d inside))
+
+    bounds-rise : IsSortedBy (λ (a b : Row). goes_before (bound_of dist pivots query a) (bound_of dist pivots query b)) (entries_at entries cs)
+    bounds-rise j d low below =
+        let none : Candidate = record { bound = 0; id = 0; place = 0 } in
+        let long = length-map cs (entry_at entries) in
+        let later : j + 1 < length cs = omega (arith, below, long) in
+        ap (λ b. goes_before b (bound_of dist pivots query (get_or (entries_at entries cs) j d))) (sym (bound-at (j + 1) none d later))
+        ∙ ap (goes_before (key_of (get_or cs (j + 1) none))) (sym (bound-at j none d (omega (arith, later))))
+        ∙ rises j (j + 1) none (omega arith) later
+
+    pub visits-found : each_with query pivots ++ each_with query (objects_at entries (take n cs)) ≡ each_with query (near_visits dist pivots entries query k)
+    unfolding near_visits
+    visits-found =
+        let by = λ (a b : Row). goes_before (bound_of dist pivots query a) (bound_of dist pivots query b) in
+        let weak = laws.weak_by_key goes_before laws.pair_order (bound_of dist pivots query) in
+        let whole : entries_at entries cs ≡ arranged by entries =
+        laws.arranged_by-unique goes_before laws.pair_order (bound_of dist pivots query) entries (entries_at entries cs) moved distinct (laws.in_order-from_sorted by weak (entries_at entries cs) bounds-rise) in
+        let rows : arranged by (filter in_reach entries) ≡ entries_at entries (take n cs) =
+        laws.arranged_by-filter goes_before laws.pair_order (bound_of dist pivots query) in_reach entries ∙ ap (filter in_reach) (sym whole) ∙ reached in
+        sym (map-append (λ (o : List ℕ). (query, o)) pivots (objects_at entries (take n cs)))
+        ∙ ap (λ os. each_with query (pivots ++ os)) (objects-are (take n cs) ∙ ap (map (λ (row : Row). row.1)) (sym rows))
+      where
+        objects-are : (xs : List Candidate) → objects_at entries xs ≡ map (λ (row : Row). row.1) (entries_at entries xs)
+        objects-are [] = refl
+        objects-are (x ∷ xs) = ap (λ os. (entry_at entries x).1 ∷ os) (objects-are xs)

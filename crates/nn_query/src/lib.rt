@@ -1,0 +1,10 @@
+//! The nearest neighbours, answered with few distances: exactly what a scan of all objects gives.
+#![tactic(auto)]
+
+mod best;
+mod near;
+mod queue;
+#[cfg(test)]
+mod tests;
+
+pub use near::{NearAnswer, near_rows};

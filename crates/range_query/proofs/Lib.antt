@@ -1,0 +1,5 @@
+pub mod Passing
+pub mod Verdicts
+pub mod Ends
+pub mod Halves
+pub mod Joins

@@ -1,0 +1,15 @@
+use Rattle.std.proofs.Common.{◌≡◌, take}
+use Rattle.range_query.specs.Findings.{Finds, Measures}
+use Rattle.range_query.specs.Passes.{verdict_of_pair, ids_of, objects_of, pairs_of}
+use Rattle.range_query.proofs.join.pair_up.Given as goal
+
+-- the pairs with the rows so far were passed over
+abbrev pub invariant-loop-other : goal.invariant-loop-other
+invariant-loop-other g l =
+    let ruler = g.R.Ruler in
+    let kind = ruler.kind l.fn.ruler in
+    let seen = pairs_of l.same (take l.other-index l.others) l.row in record {
+      same_kind : ruler.kind l.ruler ≡ kind;
+      found : Finds (verdict_of_pair (ruler.dist kind) l.r) ids_of seen l.fn.found l.found;
+      measured : Measures (verdict_of_pair (ruler.dist kind) l.r) objects_of seen (ruler.count l.fn.ruler) (ruler.log l.fn.ruler) (ruler.count l.ruler) (ruler.log l.ruler);
+    }

@@ -1,0 +1,38 @@
+-- What is found out of two objects and a radius, by their vectors and, where these don't tell, by their distance.
+use Rattle.std.specs.Prelude.{ℕ, Bool, true, false, List, if◌then◌else◌}
+use Rattle.pivot_map.specs.declared.verdict.PairTest.{PairTest}
+use Rattle.pivot_map.specs.declared.verdict.PairTest.TheVariants as told
+use Rattle.pivot_map.specs.Verdicts.{pair_verdict}
+use Rattle.range_query.specs.declared.verdict.Verdict.{Verdict}
+use Rattle.range_query.specs.declared.verdict.Verdict.TheVariants.{Apart, Sure, Measured}
+
+-- the verdict, by what the pivots tell and whether the distance is within the radius
+abbrev pub judged : PairTest → Bool → Verdict
+judged told.Apart within = Apart
+judged told.Sure within = Sure
+judged told.Open within = Measured within
+
+-- the verdict, by the two vectors and whether the distance is within the radius
+abbrev pub verdict_of : List ℕ → ℕ → List ℕ → Bool → Verdict
+verdict_of a radius b within = judged (pair_verdict a radius b) within
+
+-- the objects are within the radius of each other
+abbrev pub is_within : Verdict → Bool
+is_within Apart = false
+is_within Sure = true
+is_within (Measured within) = within
+
+-- their distance was measured
+abbrev pub was_measured : Verdict → Bool
+was_measured Apart = false
+was_measured Sure = false
+was_measured (Measured within) = true
+
+-- they are within by the pivots alone
+abbrev pub was_sure : Verdict → Bool
+was_sure Apart = false
+was_sure Sure = true
+was_sure (Measured within) = false
+
+abbrev pub one_if : Bool → ℕ
+one_if b = if b then 1 else 0

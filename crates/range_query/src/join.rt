@@ -1,0 +1,114 @@
+//! Joins of rows.
+ghost use Rattle.std.specs.Prelude.{length, ◌≤◌, ◌≡◌, ℕ, ◌+◌, ◌^◌, ◌<◌, true, IfOk, OnOk};
+ghost use Rattle.metric_laws.specs.Log.{GrewInAnyOrder};
+ghost use Rattle.spb_defs.specs.Scans.{considered, scan_join, join_evals, join_sure, join_visits};
+ghost use Rattle.range_query.specs.Findings.{Finds, Measures};
+ghost use Rattle.range_query.specs.Passes.{AreAlike, verdict_of_pair, ids_of, objects_of, pair_of, pairs_of, partners_of};
+ghost use Rattle.pivot_map.specs.Rows.{ArePivots, AreRows, entries_of};
+
+use crate::found::Found;
+use crate::verdict::judge;
+use answer_lists::arrange;
+use metric_laws::Ruler;
+use pivot_map::{Pairs, Row};
+use spb_edge::{Bytes, Memory};
+use std::alloc::Global;
+
+/// The pairs of objects within a radius of each other, and what the answer took.
+#[derive(Debug, Drop)]
+pub struct JoinAnswer {
+    /// The pairs of ids, in order.
+    pub pairs: Pairs,
+    /// How many distances were evaluated.
+    pub evals: u64,
+    /// How many pairs are within by the pivots alone.
+    pub sure: u64,
+}
+
+/// The pairs of a row on the left and one on the right whose objects are within the radius `r` of each
+/// other, exactly as a scan of all pairs would find them. Where `same` is true both sides are one list, and
+/// of each two rows the one with the lesser id is on the left.
+///
+/// It measures the pairs of which the pivots tell neither that they are within nor that they aren't. It
+/// needs at most 8 pivots, and on each side at most 2^31 rows by them, no two with one id. It tests the
+/// vectors of each pair of rows once, and takes memory for the answer alone.
+pub fn join_rows<R: Ruler>(
+    alloc: Global,
+    left: &[Row],
+    right: &[Row],
+    pivots: &[Bytes],
+    same: bool,
+    ruler: &mut R,
+    r: u32,
+) -> Result<JoinAnswer, Memory>
+    requires pivots { ArePivots (R.admitted (R.kind ruler.old)) pivots.now }
+    requires left { AreRows (R.admitted (R.kind ruler.old)) (R.dist (R.kind ruler.old)) pivots.now left.now }
+    requires right { AreRows (R.admitted (R.kind ruler.old)) (R.dist (R.kind ruler.old)) pivots.now right.now }
+    requires same { same ≡ true → left.now ≡ right.now }
+    requires room { R.count ruler.old < 2 ^ 63 }
+    ensures pairs { IfOk result (λ answer. answer.pairs ≡ scan_join (R.dist (R.kind ruler.old)) (considered same (entries_of left.now) (entries_of right.now)) r) }
+    ensures evals { IfOk result (λ answer. answer.evals ≡ join_evals (R.dist (R.kind ruler.old)) pivots.now (considered same (entries_of left.now) (entries_of right.now)) r) }
+    ensures sure { IfOk result (λ answer. answer.sure ≡ join_sure (R.dist (R.kind ruler.old)) pivots.now (considered same (entries_of left.now) (entries_of right.now)) r) }
+    ensures count { IfOk result (λ answer. R.count ruler.new ≡ R.count ruler.old + answer.evals) }
+    ensures log { OnOk result (GrewInAnyOrder (R.log ruler.old) (R.log ruler.new)
+        (join_visits (R.dist (R.kind ruler.old)) pivots.now (considered same (entries_of left.now) (entries_of right.now)) r)) }
+    ensures kind { R.kind ruler.new ≡ R.kind ruler.old }
+{
+    let mut found = Found::new(alloc);
+    for i in 0..left.len() {
+        let others = partners(right, same, i + 1);
+        pair_up(ruler, &left[i], others, same, r, &mut found)?;
+    }
+    arrange(&mut found.kept);
+    Ok(JoinAnswer {
+        pairs: Pairs::from_vec(found.kept),
+        evals: found.evals,
+        sure: found.sure,
+    })
+}
+
+/// The rows that the row before place `next` is paired with.
+fn partners(right: &[Row], same: bool, next: usize) -> &[Row]
+    requires { same ≡ true → next ≤ length right.now }
+    ensures { result.now ≡ partners_of same right.now next }
+{
+    if same { &right[next..] } else { right }
+}
+
+/// Passes over the pairs of the row with each of the others, where `same` is true with the lesser id on the
+/// left.
+fn pair_up<R: Ruler>(
+    ruler: &mut R,
+    row: &Row,
+    others: &[Row],
+    same: bool,
+    r: u32,
+    found: &mut Found<(u32, u32)>,
+) -> Result<(), Memory>
+    requires row { R.admitted (R.kind ruler.old) row.now.object }
+    requires others { AreAlike (R.admitted (R.kind ruler.old)) (length row.now.vect) others.now }
+    requires room { R.count ruler.old + length others.now < 2 ^ 64 }
+    requires evals { found.old.evals + length others.now < 2 ^ 64 }
+    requires sure { found.old.sure + length others.now < 2 ^ 64 }
+    ensures found { OnOk result (Finds (verdict_of_pair (R.dist (R.kind ruler.old)) r) ids_of (pairs_of same others.now row.now) found.old found.new) }
+    ensures measured { OnOk result (Measures (verdict_of_pair (R.dist (R.kind ruler.old)) r) objects_of (pairs_of same others.now row.now)
+        (R.count ruler.old) (R.log ruler.old) (R.count ruler.new) (R.log ruler.new)) }
+    ensures kind { R.kind ruler.new ≡ R.kind ruler.old }
+{
+    for other in others {
+        let (first, second) = in_order(row, other, same);
+        let verdict = judge(ruler, first.object.as_slice(), &first.vect, second, r);
+        found.note((first.id, second.id), verdict)?;
+    }
+    Ok(())
+}
+
+/// The two rows, where `same` is true with the lesser id on the left.
+fn in_order<'a>(row: &'a Row, other: &'a Row, same: bool) -> (&'a Row, &'a Row)
+    ensures { (result.0.now, result.1.now) ≡ pair_of same row.now other.now }
+{
+    if same && other.id < row.id {
+        return (other, row);
+    }
+    (row, other)
+}
