@@ -1,0 +1,5 @@
+pub mod Finding
+pub mod Permuting
+pub mod Places
+pub mod TableLaws
+pub mod Tables

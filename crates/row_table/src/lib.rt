@@ -1,0 +1,10 @@
+//! The rows of one collection, side by side, and an index from ids to their places.
+#![tactic(auto)]
+
+mod places;
+mod table;
+#[cfg(test)]
+mod tests;
+
+pub use pivot_map::Row;
+pub use table::RowTable;

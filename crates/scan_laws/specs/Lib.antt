@@ -1,0 +1,7 @@
+pub mod Agree
+pub mod Answers
+pub mod Arranged
+pub mod Entries
+pub mod Members
+pub mod RowOrder
+pub mod Tables

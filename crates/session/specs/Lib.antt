@@ -1,0 +1,6 @@
+pub mod Measures
+pub mod Session
+pub mod Store
+pub use Rattle.spb_defs.specs.State
+pub use Rattle.spb_defs.specs.Step
+pub use Rattle.cmd_grammar.specs.HoldsObject

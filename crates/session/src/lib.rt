@@ -1,0 +1,14 @@
+//! A session: one reply after the other, from one state to the next.
+//!
+//! Ranges, nearest objects and joins are answered with few distances, by the vectors of distances to the
+//! pivots. The pivots are chosen where the samples close, at the first command that isn't a sample.
+#![tactic(auto)]
+
+mod mem_session;
+mod pivots;
+mod queries;
+mod store;
+#[cfg(test)]
+mod tests;
+
+pub use mem_session::{Ending, MemSession};

@@ -1,0 +1,319 @@
+//! The store in memory.
+
+use crate::pivots::chosen_pivots;
+use cmd_grammar::{Command, LineError, Reply, read_command};
+use metric_laws::{Counted, Metric, Ruler};
+use metrics_builtin::Space;
+use pivot_map::{Row, map_object};
+use row_table::RowTable;
+use spb_defs::{MEMORY_CAP, SAMPLE_LIMIT};
+use spb_edge::{Bytes, Line, Memory};
+use std::alloc::Global;
+
+/// The store in memory: its space, how many pivots are wanted, the samples while they are kept, the pivots
+/// from then on, and the rows of the four collections.
+#[derive(Drop)]
+pub(crate) struct Store {
+    pub(crate) space: Space,
+    wanted: u8,
+    pub(crate) pivots: Vec<Bytes>,
+    samples: Vec<Bytes>,
+    pub(crate) sampling: bool,
+    pub(crate) tables: [RowTable; 4],
+}
+
+impl Store {
+    ghost use Rattle.std.specs.Prelude.{◌≡◌, ◌+◌, ◌^◌, ◌<◌, ◌≤◌, None, false, IsTrue, IfOk, OnOk, length, sum_by};
+    ghost use Rattle.metrics_builtin.specs.Space.{fits, IsValid};
+    ghost use Rattle.spb_edge.specs.declared.reader.Line.{Line};
+    ghost use Rattle.spb_defs.specs.declared.Command.{Command};
+    ghost use Rattle.spb_defs.specs.State.{closed, empty_in_memory};
+    ghost use Rattle.spb_defs.specs.Step.{reply_to, after, reply, next, evals_of};
+    ghost use Rattle.cmd_grammar.specs.ReadsCommand.{IsProper};
+    ghost use Rattle.cmd_grammar.specs.HoldsObject.{HoldsObject};
+    ghost use Rattle.session.specs.Measures.{Measures};
+    ghost use Rattle.session.specs.Store.{IsSound, IsReady, state_of, readied, rows_at, with_member};
+    ghost use Rattle.row_table.specs.Tables.{row_with};
+    ghost use Rattle.spb_defs.specs.declared.TheConstants.{MEMORY_CAP};
+
+    /// An empty store of the space, where so many pivots are wanted. It takes no memory.
+    pub(crate) fn new(alloc: Global, space: Space, wanted: u8) -> Store
+        requires fits { IsTrue (fits space) }
+        requires few { wanted ≤ 8 }
+        ensures empty { state_of result ≡ empty_in_memory space wanted }
+        ensures sound { IsSound result }
+    {
+        Store {
+            space,
+            wanted,
+            pivots: Vec::new(alloc),
+            samples: Vec::new(alloc),
+            sampling: true,
+            tables: [
+                RowTable::new(alloc),
+                RowTable::new(alloc),
+                RowTable::new(alloc),
+                RowTable::new(alloc),
+            ],
+        }
+    }
+
+    /// What the line is answered, and the store after it.
+    #[tactic(auto, unfolding(spb_defs::specs::Step::reply, spb_defs::specs::Step::next))]
+    pub(crate) fn turn<M: Metric, R: Ruler>(
+        &mut self,
+        alloc: Global,
+        metric: &M,
+        ruler: &mut R,
+        line: &Line,
+    ) -> Result<Reply, Memory>
+        requires sound { IsSound self.old }
+        requires measures { Measures (M.admitted metric.now) (M.dist metric.now) self.old.space }
+        requires ruler { Measures (R.admitted (R.kind ruler.old)) (R.dist (R.kind ruler.old)) self.old.space }
+        requires count { R.count ruler.old < 2 ^ 63 }
+        ensures reply { IfOk result (λ r. r ≡ reply (state_of self.old) line.now) }
+        ensures object { IfOk result (λ r. HoldsObject self.old.space r) }
+        ensures count { IfOk result (λ r. R.count ruler.new ≡ R.count ruler.old + evals_of r) }
+        ensures kind { R.kind ruler.new ≡ R.kind ruler.old }
+        ensures next { OnOk result (state_of self.new ≡ next (state_of self.old) line.now) }
+        ensures space { self.new.space ≡ self.old.space }
+        ensures sound { IsSound self.new }
+    {
+        let Line::Text(text) = line else {
+            return Ok(Reply::Long);
+        };
+        match read_command(alloc, &self.space, text.as_slice()) {
+            Ok(command) => self.answer(alloc, metric, ruler, command),
+            Err(LineError::Bad(failed)) => Ok(Reply::Bad(failed)),
+            Err(LineError::Memory) => Err(Memory),
+        }
+    }
+
+    /// What the command is answered, and the store after it.
+    fn answer<M: Metric, R: Ruler>(
+        &mut self,
+        alloc: Global,
+        metric: &M,
+        ruler: &mut R,
+        command: Command,
+    ) -> Result<Reply, Memory>
+        requires sound { IsSound self.old }
+        requires measures { Measures (M.admitted metric.now) (M.dist metric.now) self.old.space }
+        requires ruler { Measures (R.admitted (R.kind ruler.old)) (R.dist (R.kind ruler.old)) self.old.space }
+        requires count { R.count ruler.old < 2 ^ 63 }
+        requires proper { IsProper self.old.space command }
+        ensures reply { IfOk result (λ r. r ≡ reply_to (state_of self.old) command) }
+        ensures object { IfOk result (λ r. HoldsObject self.old.space r) }
+        ensures count { IfOk result (λ r. R.count ruler.new ≡ R.count ruler.old + evals_of r) }
+        ensures kind { R.kind ruler.new ≡ R.kind ruler.old }
+        ensures next { OnOk result (state_of self.new ≡ after (state_of self.old) command) }
+        ensures space { self.new.space ≡ self.old.space }
+        ensures sound { IsSound self.new }
+    {
+        self.make_ready(alloc, metric, &command)?;
+        self.answer_ready(alloc, metric, ruler, command)
+    }
+
+    /// Closes the samples, unless the command is a sample.
+    fn make_ready<M: Metric>(
+        &mut self,
+        alloc: Global,
+        metric: &M,
+        command: &Command,
+    ) -> Result<(), Memory>
+        requires sound { IsSound self.old }
+        requires measures { Measures (M.admitted metric.now) (M.dist metric.now) self.old.space }
+        ensures readied { OnOk result (state_of self.new ≡ readied (state_of self.old) command.now) }
+        ensures ready { OnOk result (IsReady self.new.sampling command.now) }
+        ensures space { self.new.space ≡ self.old.space }
+        ensures sound { IsSound self.new }
+    {
+        match command {
+            Command::Sample { .. } => Ok(()),
+            Command::Add { .. }
+            | Command::Discard { .. }
+            | Command::Get { .. }
+            | Command::Count { .. }
+            | Command::Range { .. }
+            | Command::Near { .. }
+            | Command::Join { .. } => self.close(alloc, metric),
+        }
+    }
+
+    /// What the command is answered, and the store after it, where the samples are closed if it needs that.
+    fn answer_ready<M: Metric, R: Ruler>(
+        &mut self,
+        alloc: Global,
+        metric: &M,
+        ruler: &mut R,
+        command: Command,
+    ) -> Result<Reply, Memory>
+        requires sound { IsSound self.old }
+        requires measures { Measures (M.admitted metric.now) (M.dist metric.now) self.old.space }
+        requires ruler { Measures (R.admitted (R.kind ruler.old)) (R.dist (R.kind ruler.old)) self.old.space }
+        requires count { R.count ruler.old < 2 ^ 63 }
+        requires proper { IsProper self.old.space command }
+        requires ready { IsReady self.old.sampling command }
+        ensures reply { IfOk result (λ r. r ≡ reply_to (state_of self.old) command) }
+        ensures object { IfOk result (λ r. HoldsObject self.old.space r) }
+        ensures count { IfOk result (λ r. R.count ruler.new ≡ R.count ruler.old + evals_of r) }
+        ensures kind { R.kind ruler.new ≡ R.kind ruler.old }
+        ensures next { OnOk result (state_of self.new ≡ after (state_of self.old) command) }
+        ensures space { self.new.space ≡ self.old.space }
+        ensures sound { IsSound self.new }
+    {
+        match command {
+            Command::Sample { object } => self.sample(object),
+            Command::Add { c, id, object } => self.add(metric, c, id, object),
+            Command::Discard { c, id } => Ok(self.discard(c, id)),
+            Command::Get { c, id } => self.get(alloc, c, id),
+            Command::Count { c } => Ok(self.count(c)),
+            Command::Range { c, r, object } => self.range(alloc, ruler, c, r, &object),
+            Command::Near { c, k, object } => self.near(alloc, ruler, c, k, &object),
+            Command::Join { c, d, r } => self.join(alloc, ruler, c, d, r),
+        }
+    }
+
+    /// Closes the samples, where they are open: the pivots are chosen from them. Where memory runs out
+    /// nothing changes.
+    fn close<M: Metric>(&mut self, alloc: Global, metric: &M) -> Result<(), Memory>
+        requires sound { IsSound self.old }
+        requires measures { Measures (M.admitted metric.now) (M.dist metric.now) self.old.space }
+        ensures closed { OnOk result (state_of self.new ≡ closed (state_of self.old)) }
+        ensures sampling { OnOk result (self.new.sampling ≡ false) }
+        ensures space { self.new.space ≡ self.old.space }
+        ensures sound { IsSound self.new }
+    {
+        if !self.sampling {
+            return Ok(());
+        }
+        let pivots = chosen_pivots(alloc, metric, self.samples.as_slice(), self.wanted)?;
+        self.pivots = pivots;
+        self.sampling = false;
+        self.samples.clear();
+        Ok(())
+    }
+
+    /// Keeps the object as a sample, while the samples are open and there is room.
+    fn sample(&mut self, object: Bytes) -> Result<Reply, Memory>
+        requires sound { IsSound self.old }
+        requires object { IsValid self.old.space object }
+        ensures reply { IfOk result (λ r. r ≡ reply_to (state_of self.old) (Command.Sample object)) }
+        ensures object { IfOk result (λ r. HoldsObject self.old.space r) }
+        ensures unmeasured { IfOk result (λ r. evals_of r ≡ 0) }
+        ensures next { OnOk result (state_of self.new ≡ after (state_of self.old) (Command.Sample object)) }
+        ensures space { self.new.space ≡ self.old.space }
+        ensures sound { IsSound self.new }
+    {
+        if !self.sampling {
+            return Ok(Reply::Late);
+        }
+        if self.samples.len() >= SAMPLE_LIMIT {
+            return Ok(Reply::Full);
+        }
+        self.samples.push(object)?;
+        Ok(Reply::Done)
+    }
+
+    /// How many objects there are, in all collections.
+    fn len(&self) -> usize
+        requires sound { IsSound self.now }
+        ensures { result ≡ sum_by length self.now.tables }
+    {
+        self.tables[0].len() + self.tables[1].len() + self.tables[2].len() + self.tables[3].len()
+    }
+
+    /// Adds the object, if the collection doesn't have the id and there is room. It takes the distances to
+    /// the pivots, and time in the logarithm of the number of objects.
+    fn add<M: Metric>(&mut self, metric: &M, c: u8, id: u32, object: Bytes) -> Result<Reply, Memory>
+        requires sound { IsSound self.old }
+        requires measures { Measures (M.admitted metric.now) (M.dist metric.now) self.old.space }
+        requires closed { self.old.sampling ≡ false }
+        requires collection { c < 4 }
+        requires object { IsValid self.old.space object }
+        ensures reply { IfOk result (λ r. r ≡ reply_to (state_of self.old) (Command.Add c id object)) }
+        ensures object { IfOk result (λ r. HoldsObject self.old.space r) }
+        ensures unmeasured { IfOk result (λ r. evals_of r ≡ 0) }
+        ensures next { OnOk result (state_of self.new ≡ after (state_of self.old) (Command.Add c id object)) }
+        ensures space { self.new.space ≡ self.old.space }
+        ensures sound { IsSound self.new }
+    {
+        if self.tables[c as usize].has(id) {
+            return Ok(Reply::Exists);
+        }
+        if self.len() >= MEMORY_CAP {
+            return Ok(Reply::Full);
+        }
+        self.put(metric, c, id, object)?;
+        Ok(Reply::Done)
+    }
+
+    /// Adds a row for the object to a collection that doesn't have the id, where there is room.
+    fn put<M: Metric>(&mut self, metric: &M, c: u8, id: u32, object: Bytes) -> Result<(), Memory>
+        requires sound { IsSound self.old }
+        requires measures { Measures (M.admitted metric.now) (M.dist metric.now) self.old.space }
+        requires collection { c < 4 }
+        requires object { IsValid self.old.space object }
+        requires open { self.old.sampling ≡ false }
+        requires new { row_with id (rows_at self.old.tables c) ≡ None }
+        requires room { sum_by length self.old.tables < MEMORY_CAP }
+        ensures members { OnOk result (state_of self.new ≡ with_member (state_of self.old) c id object) }
+        ensures space { self.new.space ≡ self.old.space }
+        ensures sound { IsSound self.new }
+    {
+        let mut ruler = Counted::new(*metric);
+        let vect = map_object(&mut ruler, self.pivots.as_slice(), object.as_slice());
+        self.tables[c as usize].insert(Row { id, object, vect })?;
+        Ok(())
+    }
+
+    /// Takes the object out, if the collection has the id. It takes time in the logarithm of the number of
+    /// objects.
+    fn discard(&mut self, c: u8, id: u32) -> Reply
+        requires sound { IsSound self.old }
+        requires closed { self.old.sampling ≡ false }
+        requires collection { c < 4 }
+        ensures reply { result ≡ reply_to (state_of self.old) (Command.Discard c id) }
+        ensures object { HoldsObject self.old.space result }
+        ensures unmeasured { evals_of result ≡ 0 }
+        ensures next { state_of self.new ≡ after (state_of self.old) (Command.Discard c id) }
+        ensures space { self.new.space ≡ self.old.space }
+        ensures sound { IsSound self.new }
+    {
+        if self.tables[c as usize].remove(id) {
+            Reply::Done
+        } else {
+            Reply::Absent
+        }
+    }
+
+    /// The object, if the collection has the id. It takes time in the logarithm of the number of objects,
+    /// and memory for a copy.
+    fn get(&self, alloc: Global, c: u8, id: u32) -> Result<Reply, Memory>
+        requires sound { IsSound self.now }
+        requires closed { self.now.sampling ≡ false }
+        requires collection { c < 4 }
+        ensures reply { IfOk result (λ r. r ≡ reply_to (state_of self.now) (Command.Get c id)) }
+        ensures object { IfOk result (λ r. HoldsObject self.now.space r) }
+        ensures unmeasured { IfOk result (λ r. evals_of r ≡ 0) }
+        ensures next { after (state_of self.now) (Command.Get c id) ≡ state_of self.now }
+    {
+        match self.tables[c as usize].find(id) {
+            Some(row) => Ok(Reply::Object(Bytes::of(alloc, row.object.as_slice())?)),
+            None => Ok(Reply::Absent),
+        }
+    }
+
+    /// How many objects the collection has.
+    fn count(&self, c: u8) -> Reply
+        requires sound { IsSound self.now }
+        requires closed { self.now.sampling ≡ false }
+        requires collection { c < 4 }
+        ensures reply { result ≡ reply_to (state_of self.now) (Command.Count c) }
+        ensures object { HoldsObject self.now.space result }
+        ensures unmeasured { evals_of result ≡ 0 }
+        ensures next { after (state_of self.now) (Command.Count c) ≡ state_of self.now }
+    {
+        Reply::Count(self.tables[c as usize].len() as u32)
+    }
+}
