@@ -4,7 +4,7 @@
 
 ghost use Rattle.std.specs.Prelude.{◌≡◌, ◌≢◌, ◌⊎◌, None, map, IfErr};
 ghost use Rattle.std.specs.String.{string_bytes};
-ghost use Rattle.spb_top.specs.Words.{space_of};
+ghost use Rattle.spb_top.specs.Words.{setup_of};
 ghost use Rattle.std.specs.IoError.{error_kind};
 
 mod streams;
@@ -60,8 +60,8 @@ fn work<R: Read + Drop, W: Write + Drop>(
     reader: R,
     writer: W,
 ) -> Status
-    ensures usage { result ≡ Status.Usage → space_of (map string_bytes words.now) ≡ None }
-    ensures others { space_of (map string_bytes words.now) ≡ None → result ≡ Status.Usage ⊎ result ≡ Status.NoMemory }
+    ensures usage { result ≡ Status.Usage → setup_of (map string_bytes words.now) ≡ None }
+    ensures others { setup_of (map string_bytes words.now) ≡ None → result ≡ Status.Usage ⊎ result ≡ Status.NoMemory }
 {
     let Ok(mut disk) = SureDisk::new(alloc, &[]) else {
         return Status::NoMemory;

@@ -1,4 +1,1 @@
-pub mod RowLaws
-pub mod AddLaws
 pub mod Running
-pub mod RangeLaws

@@ -22,7 +22,6 @@ use Rattle.spb_defs.specs.State.{State}
 use Rattle.spb_defs.specs.Step.{reply, next}
 use Rattle.spb_defs.specs.ReplyText.{reply_text}
 use Rattle.spb_defs.specs.Play.{play_lines, play, play_ended}
-use Rattle.spb_top.specs.Memory.{HasValidObjects}
 use Rattle.spb_edge.specs.Fault.{Rose}
 use Rattle.spb_top.specs.declared.status.Status.{Status}
 use Rattle.spb_top.specs.declared.status.Status.TheVariants.{Done}
@@ -53,17 +52,17 @@ module _ {S K : Type 0} (G : source.Ghosts S) (H : sink.Ghosts K) where
     pub is_open : IsOpen now
     pub source : faults reader ≤ faults now
     pub sink_faults : H.faults output ≤ H.faults sink
-    pub valid : HasValidObjects state.space state.members
+    pub space : state.space ≡ first.space
 
   -- before the first line
-  pub Answering-start : (first : State) (reader : LineReader S G) (output : K) → taken reader ≡ 0 → unread reader ≡ [] → has_ended reader ≡ false → HasValidObjects first.space first.members → Answering first reader output reader output first []
-  Answering-start first reader output none empty running valid = record {
+  pub Answering-start : (first : State) (reader : LineReader S G) (output : K) → taken reader ≡ 0 → unread reader ≡ [] → has_ended reader ≡ false → Answering first reader output reader output first []
+  Answering-start first reader output none empty running = record {
     wrote = sym (told_then-nil (H.taken output));
     follows = λ script told. (script, told, record { text = refl; took = []; split = refl; whole = inr (λ more. refl) }, omega (arith, ap length empty, none));
     is_open = record { total = omega arith; ended = λ ended. absurd (false≢true (sym running ∙ ended)) };
     source = omega arith;
     sink_faults = omega arith;
-    valid = valid;
+    space = refl;
   }
 
 -- ---- what is left, from line to line
@@ -124,7 +123,7 @@ line_at End bytes left ended not_end at = absurd (not_end refl)
 
 -- one whole line more went, or the source has ended behind the last
 whole_line : (took : List ℕ) (first : State) (written : List ℕ) (state state' : State) (line : Line) (text bytes : List ℕ) (behind : Option (List ℕ)) (ended ended' : Bool)
-    → (IsTrue ended ⊎ AreWhole took first written state) → (IsTrue ended → ⊥) → IsLineAt LINE_LIMIT line bytes behind ended' → text ≡ reply_text (reply state line) → state' ≡ next state line
+    → (IsTrue ended ⊎ AreWhole took first written state) → (IsTrue ended → ⊥) → IsLineAt LINE_LIMIT line bytes behind ended' → text ≡ reply_text state.space (reply state line) → state' ≡ next state line
     → IsTrue ended' ⊎ AreWhole (took ++ bytes) first (written ++ text) state'
 whole_line took first written state state' line text bytes behind ended ended' (inl end) not_ended how replies goes = absurd (not_ended end)
 whole_line took first written state state' line text bytes behind ended ended' (inr whole) not_ended (piece, none, is, inr last) replies goes = inl last.3
@@ -203,9 +202,9 @@ module _ {S K : Type 0} (G : source.Ghosts S) (H : sink.Ghosts K) where
   -- one line was answered
   pub Answering-line : (first : State) (reader : LineReader S G) (output : K) (now : LineReader S G) (sink : K) (state : State) (written : List ℕ) → Answering G H first reader output now sink state written
       → (new : LineReader S G) (sink' : K) (state' : State) (line : Line) (text bytes : List ℕ) → (line ≡ End → ⊥) → IsNextLine LINE_LIMIT line (rest now) (rest new) → TakesOff now new bytes
-      → IsOpen new → (IsTrue (has_ended now) → EndsAgain (Ok line)) → IsLineAt LINE_LIMIT line bytes (rest new) (has_ended new) → faults now ≤ faults new → text ≡ reply_text (reply state line) → state' ≡ next state line → H.taken sink' ≡ told_then (H.taken sink) text → H.faults sink ≤ H.faults sink' → HasValidObjects state'.space state'.members
+      → IsOpen new → (IsTrue (has_ended now) → EndsAgain (Ok line)) → IsLineAt LINE_LIMIT line bytes (rest new) (has_ended new) → faults now ≤ faults new → text ≡ reply_text state.space (reply state line) → state' ≡ next state line → H.taken sink' ≡ told_then (H.taken sink) text → H.faults sink ≤ H.faults sink' → state'.space ≡ state.space
       → Answering G H first reader output new sink' state' (written ++ text)
-  Answering-line first reader output now sink state written so new sink' state' line text bytes not_end comes off is_open after how grew replies goes puts grew' valid =
+  Answering-line first reader output now sink state written so new sink' state' line text bytes not_end comes off is_open after how grew replies goes puts grew' stays =
       let sofar = so.source in
       let sofar' = so.sink_faults in record {
         wrote = puts ∙ ap (λ t. told_then t text) so.wrote ∙ told_then-append (H.taken output) written text;
@@ -232,13 +231,13 @@ module _ {S K : Type 0} (G : source.Ghosts S) (H : sink.Ghosts K) where
         is_open = is_open;
         source = omega arith;
         sink_faults = omega arith;
-        valid = valid;
+        space = stays ∙ so.space;
       }
 
   -- a front of a reply was written, and no more
   pub front_of_reply : (first : State) (reader : LineReader S G) (output : K) (now : LineReader S G) (sink : K) (state : State) (written : List ℕ) → Answering G H first reader output now sink state written
       → (new : LineReader S G) (sink' : K) (line : Line) (text : List ℕ) (n : ℕ) → (line ≡ End → ⊥) → IsNextLine LINE_LIMIT line (rest now) (rest new)
-      → text ≡ reply_text (reply state line) → H.taken sink' ≡ told_then (H.taken sink) (take n text)
+      → text ≡ reply_text state.space (reply state line) → H.taken sink' ≡ told_then (H.taken sink) (take n text)
       → (script : List ℕ) → rest reader ≡ Some script → WritesFront (H.taken output) (H.taken sink') (play first script)
   front_of_reply first reader output now sink state written so new sink' line text n not_end comes replies puts script told =
       let follows = so.follows script told in

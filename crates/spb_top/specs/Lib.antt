@@ -1,4 +1,3 @@
-pub mod Memory
 pub mod Status
 pub mod Run
 pub use Rattle.spb_defs.specs.State

@@ -1,14 +1,18 @@
 -- What a run says of its input, its output and its status.
 use Rattle.std.specs.Prelude.{◌≡◌, ◌↔◌, ℕ, ◌<◌, ◌≤◌, ◌^◌, List, [], length, take, Option, Some, None, IfSome}
-use Rattle.metrics_builtin.specs.declared.Space.{Space}
 use Rattle.spb_edge.specs.Told.{before_told, told_then}
-use Rattle.spb_defs.specs.State.{State}
+use Rattle.spb_defs.specs.declared.MemorySetup.{MemorySetup}
+use Rattle.spb_defs.specs.State.{State, empty_in_memory}
 use Rattle.spb_defs.specs.Play.{play, play_ended}
 use Rattle.spb_edge.specs.Fault.{Rose}
 use Rattle.spb_edge.specs.declared.reader.EdgeError.{EdgeError}
 use Rattle.spb_edge.specs.declared.reader.EdgeError.TheVariants as edge
 use Rattle.spb_top.specs.declared.status.Status.{Status}
 use Rattle.spb_top.specs.declared.status.Status.TheVariants.{Done, Usage, NoMemory, ReadFault, WriteFault, InputLimit}
+
+-- the store before the first line
+abbrev pub first_state : MemorySetup → State
+first_state setup = empty_in_memory setup.space setup.pivots
 
 -- a front of the text was written
 abbrev pub WritesFront : Option (List ℕ) → Option (List ℕ) → List ℕ → Type 0
@@ -74,10 +78,10 @@ stopped_by edge.InputLimit = InputLimit
 stopped_by edge.Memory = NoMemory
 
 -- the words are in the grammar exactly where the run doesn't end as Usage
-abbrev pub Asks : Option Space → Status → Type 0
+abbrev pub Asks : Option MemorySetup → Status → Type 0
 Asks asked status = (status ≡ Usage) ↔ (asked ≡ None)
 
 -- no fault was counted, and the input was told and within the limit: then the work was done, or memory ran out
-abbrev pub Completes : Status → Option Space → Faults → Option (List ℕ) → Type 0
-Completes status asked faults told = (space : Space) → asked ≡ Some space → (script : List ℕ) → told ≡ Some script → length script ≤ 2 ^ 30
+abbrev pub Completes : Status → Option MemorySetup → Faults → Option (List ℕ) → Type 0
+Completes status asked faults told = (setup : MemorySetup) → asked ≡ Some setup → (script : List ℕ) → told ≡ Some script → length script ≤ 2 ^ 30
     → (Rose faults.source_before faults.source_now → ⊥) → (Rose faults.sink_before faults.sink_now → ⊥) → IsDoneOrNoMemory status

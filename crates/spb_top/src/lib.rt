@@ -1,7 +1,6 @@
 //! The whole of the program but for its outermost edge: its words, its run, its statuses.
 #![tactic(auto)]
 
-mod memory;
 #[cfg(test)]
 mod plain;
 mod status;

@@ -1,44 +1,94 @@
 //! The top call.
-ghost use Rattle.std.specs.Prelude.{false, ◌≡◌, ◌≢◌, ℕ, List, [], Some, None, map, OnOk};
+ghost use Rattle.std.specs.Prelude.{false, ◌≡◌, ◌≢◌, ◌≤◌, ℕ, List, [], Some, None, map, OnOk, IsTrue};
 ghost use Rattle.std.specs.String.{string_bytes};
-ghost use Rattle.metrics_builtin.specs.declared.Space.{Space};
+ghost use Rattle.spb_defs.specs.declared.MemorySetup.{MemorySetup};
 ghost use Rattle.spb_edge.specs.Reader.{unread, rest, taken, faults, has_ended};
-ghost use Rattle.spb_defs.specs.State.{empty_in_memory};
 ghost use Rattle.spb_defs.specs.Step.{reply, next};
 ghost use Rattle.spb_defs.specs.ReplyText.{reply_text};
-ghost use Rattle.spb_defs.specs.Words.{space_of};
-ghost use Rattle.spb_top.specs.Memory.{state_of, IsSound};
-ghost use Rattle.spb_top.specs.Run.{Asks, Writes, LeavesInput, HasCause, Completes, stopped_by};
+ghost use Rattle.spb_defs.specs.Words.{setup_of};
+ghost use Rattle.session.specs.Measures.{Measures};
+ghost use Rattle.spb_edge.specs.declared.reader.Line.{Line};
+ghost use Rattle.metrics_builtin.specs.Space.{fits};
+ghost use Rattle.spb_top.specs.Run.{first_state, Asks, Writes, LeavesInput, HasCause, Completes, stopped_by};
 
-use crate::memory::Store;
 use crate::status::Status;
 use cmd_grammar::{read_words, write_reply};
-use metrics_builtin::{L1, Space};
-use spb_defs::LINE_LIMIT;
+use metric_laws::{Counted, Metric};
+use metrics_builtin::{Hamming, L1, LInf, SetDiff, Space};
+use session::MemSession;
+use spb_defs::{LINE_LIMIT, MemorySetup};
 use spb_edge::{Bytes, Disk, EdgeError, Line, LineReader, Memory, Sink, Source, put_all};
 use std::alloc::Global;
 
-/// Clears the text, and puts the reply to the line there; the store is then as after the line.
-fn respond(store: &mut Store, alloc: Global, line: &Line, text: &mut Bytes) -> Result<(), Memory>
-    requires valid { IsSound (state_of store.old) }
-    ensures text { OnOk result (text.new ≡ reply_text (reply (state_of store.old) line.now)) }
-    ensures next { OnOk result (state_of store.new ≡ next (state_of store.old) line.now) }
-    ensures valid { IsSound (state_of store.new) }
+/// Clears the text, and puts the reply to the line there; the session is then as after the line.
+fn respond<M: Metric>(
+    session: &mut MemSession<M>,
+    alloc: Global,
+    space: &Space,
+    metric: M,
+    line: &Line,
+    text: &mut Bytes,
+) -> Result<(), Memory>
+    requires fits { IsTrue (fits space.now) }
+    requires measures { Measures (M.admitted metric) (M.dist metric) space.now }
+    requires space { session.old.state.space ≡ space.now }
+    requires line { line.now ≡ Line.End → ⊥ }
+    ensures text { OnOk result (text.new ≡ reply_text space.now (reply session.old.state line.now)) }
+    ensures next { OnOk result (session.new.state ≡ next session.old.state line.now) }
+    ensures space { OnOk result (session.new.state.space ≡ space.now) }
 {
     text.clear();
-    let reply = store.turn(alloc, line)?;
-    write_reply(&reply, text)
+    let Ok(reply) = session.turn(alloc, &mut Counted::new(metric), line) else {
+        return Err(Memory);
+    };
+    write_reply(space, &reply, text)
 }
 
 /// Answers the lines of the input one by one, from an empty store.
-fn answer_input<S: Source, K: Sink>(
+fn answer<S: Source, K: Sink>(
     alloc: Global,
-    metric: L1,
+    setup: MemorySetup,
     input: &mut S,
     output: &mut K,
 ) -> Status
+    requires fits { IsTrue (fits setup.space) }
+    requires few { setup.pivots ≤ 8 }
     ensures text { (script : List ℕ) → S.left input.old ≡ Some script
-        → Writes result (empty_in_memory (Space.L1 metric.dim metric.most)) script (S.left input.new) (K.taken output.old) (K.taken output.new) }
+        → Writes result (first_state setup) script (S.left input.new) (K.taken output.old) (K.taken output.new) }
+    ensures input { (script : List ℕ) → S.left input.old ≡ Some script → LeavesInput result script (S.left input.new) }
+    ensures cause { HasCause result
+        (record {
+          source_before = S.faults input.old;
+          source_now = S.faults input.new;
+          sink_before = K.faults output.old;
+          sink_now = K.faults output.new;
+        })
+        (S.left input.old) }
+    ensures no_usage { result ≢ Status.Usage }
+{
+    match setup.space {
+        Space::L1 { dim, most } => answer_input(alloc, setup, L1 { dim, most }, input, output),
+        Space::LInf { dim, most } => answer_input(alloc, setup, LInf { dim, most }, input, output),
+        Space::Hamming { len } => answer_input(alloc, setup, Hamming { len }, input, output),
+        Space::Sets { universe, most } => {
+            answer_input(alloc, setup, SetDiff { universe, most }, input, output)
+        }
+    }
+}
+
+/// Answers the lines of the input one by one, from an empty store.
+fn answer_input<S: Source, K: Sink, M: Metric>(
+    alloc: Global,
+    setup: MemorySetup,
+    metric: M,
+    input: &mut S,
+    output: &mut K,
+) -> Status
+    requires fits { IsTrue (fits setup.space) }
+    requires few { setup.pivots ≤ 8 }
+    requires measures { Measures (M.admitted metric) (M.dist metric) setup.space }
+    ensures text { (script : List ℕ) → S.left input.old ≡ Some script
+        → Writes result (first_state setup) script (S.left input.new) (K.taken output.old) (K.taken output.new) }
     ensures input { (script : List ℕ) → S.left input.old ≡ Some script → LeavesInput result script (S.left input.new) }
     ensures cause { HasCause result
         (record {
@@ -53,21 +103,25 @@ fn answer_input<S: Source, K: Sink>(
     let Ok(mut reader) = LineReader::new(alloc, input) else {
         return Status::NoMemory;
     };
-    answer_lines(alloc, metric, &mut reader, output)
+    answer_lines(alloc, setup, metric, &mut reader, output)
 }
 
 /// Answers the lines of a new reader one by one, from an empty store.
-fn answer_lines<S: Source, K: Sink>(
+fn answer_lines<S: Source, K: Sink, M: Metric>(
     alloc: Global,
-    metric: L1,
+    setup: MemorySetup,
+    metric: M,
     reader: &mut LineReader<'_, S>,
     output: &mut K,
 ) -> Status
+    requires fits { IsTrue (fits setup.space) }
+    requires few { setup.pivots ≤ 8 }
+    requires measures { Measures (M.admitted metric) (M.dist metric) setup.space }
     requires nothing_taken { taken reader.old ≡ 0 }
     requires nothing_unread { unread reader.old ≡ [] }
     requires not_ended { has_ended reader.old ≡ false }
     ensures text { (script : List ℕ) → rest reader.old ≡ Some script
-        → Writes result (empty_in_memory (Space.L1 metric.dim metric.most)) script (S.left reader.new.source.now) (K.taken output.old) (K.taken output.new) }
+        → Writes result (first_state setup) script (S.left reader.new.source.now) (K.taken output.old) (K.taken output.new) }
     ensures input { (script : List ℕ) → rest reader.old ≡ Some script → LeavesInput result script (S.left reader.new.source.now) }
     ensures cause { HasCause result
         (record {
@@ -80,7 +134,9 @@ fn answer_lines<S: Source, K: Sink>(
     ensures no_usage { result ≢ Status.Usage }
     ensures name { reader.new.source.ghost_name ≡ reader.old.source.ghost_name }
 {
-    let mut store = Store::new(alloc, metric);
+    let Ok(mut session) = MemSession::new(alloc, setup.space, metric, setup.pivots) else {
+        return Status::NoMemory;
+    };
     let Ok(mut text) = Bytes::of(alloc, &[]) else {
         return Status::NoMemory;
     };
@@ -92,7 +148,7 @@ fn answer_lines<S: Source, K: Sink>(
         if line.is_end() {
             return Status::Done;
         }
-        let Ok(()) = respond(&mut store, alloc, &line, &mut text) else {
+        let Ok(()) = respond(&mut session, alloc, &setup.space, metric, &line, &mut text) else {
             return Status::NoMemory;
         };
         let Ok(()) = put_all(output, text.as_slice()) else {
@@ -114,13 +170,13 @@ fn stopped(e: EdgeError) -> Status
 
 /// Does what the words ask for, and says how it ended.
 ///
-/// The words are those after the program's name. `mem l1 DIM MOST` answers a script in memory: it
-/// reads the lines of `input` to its end, from an empty store of vectors of `DIM` components from 0 to
-/// `MOST`, and puts the reply to each into `output` before it goes on to the next. All other words are
-/// [`Status::Usage`]. No call is made on the disk.
+/// The words are those after the program's name. `mem l1 DIM MOST`, `mem linf DIM MOST`, `mem hamming LEN`
+/// and `mem sets UNIVERSE MOST` answer a script in memory: the lines of `input` are read to its end, from
+/// an empty store of that space, and the reply to each is put into `output` before the next is read. One
+/// more word says how many pivots are chosen from the samples, 0 to 8; without it there are none. All other
+/// words are [`Status::Usage`]. No call is made on the disk.
 ///
-/// Each line is passed over a few times. An addition takes time in the logarithm of the number of
-/// objects, and a range passes over the objects of one collection once.
+/// Each line is passed over a few times, and answered at the cost that [`MemSession::turn`] tells.
 pub fn run<S: Source, K: Sink, D: Disk>(
     alloc: Global,
     words: &[String],
@@ -129,14 +185,14 @@ pub fn run<S: Source, K: Sink, D: Disk>(
     disk: &mut D,
 ) -> Status
     // It ends as Usage exactly where the words aren't in the grammar.
-    ensures words { Asks (space_of (map string_bytes words.now)) result }
+    ensures words { Asks (setup_of (map string_bytes words.now)) result }
 
     // What is written is what scanning all objects gives, however the input is cut into pieces: all of it
     // on Done, the replies to the lines that an LF ended on ReadFault and InputLimit, and a front of it on
     // the other statuses.
-    ensures text { (space : Space) → space_of (map string_bytes words.now) ≡ Some space
+    ensures text { (setup : MemorySetup) → setup_of (map string_bytes words.now) ≡ Some setup
         → (script : List ℕ) → S.left input.old ≡ Some script
-        → Writes result (empty_in_memory space) script (S.left input.new) (K.taken output.old) (K.taken output.new) }
+        → Writes result (first_state setup) script (S.left input.new) (K.taken output.old) (K.taken output.new) }
     ensures usage { result ≡ Status.Usage → (input.new ≡ input.old) × (output.new ≡ output.old) }
     ensures input { (script : List ℕ) → S.left input.old ≡ Some script → LeavesInput result script (S.left input.new) }
 
@@ -149,7 +205,7 @@ pub fn run<S: Source, K: Sink, D: Disk>(
           sink_now = K.faults output.new;
         })
         (S.left input.old) }
-    ensures complete { Completes result (space_of (map string_bytes words.now))
+    ensures complete { Completes result (setup_of (map string_bytes words.now))
         (record {
           source_before = S.faults input.old;
           source_now = S.faults input.new;
@@ -161,7 +217,7 @@ pub fn run<S: Source, K: Sink, D: Disk>(
     ensures disk { disk.new ≡ disk.old }
 {
     match read_words(words) {
-        Some(Space::L1 { dim, most }) => answer_input(alloc, L1 { dim, most }, input, output),
+        Some(setup) => answer(alloc, setup, input, output),
         None => Status::Usage,
     }
 }
