@@ -59,7 +59,7 @@ def table(program, baseline, kind, words, sizes):
     whole, adds = script_of(kind, *sizes), script_of(kind, sizes[0], 0)
     _, scan = queries_of(baseline, words, whole, adds)
     print(f"{' '.join(words)}: {sizes[0]} objects, {sizes[1]} ranges, {sizes[1]} near, 2 joins; plain Rust scan {scan:.3f} s")
-    print("pivots  range evals  near evals  join evals     spb s  Rust with pivots s  ratio  of the scan")
+    print("pivots  range evals  near evals  join evals     spb s  Rust with pivots s  ratio  to the scan")
     for pivots in PIVOTS:
         asked = words + [str(pivots)]
         text, seconds = queries_of(program, asked, whole, adds)

@@ -45,7 +45,7 @@ def dependencies():
     for line in told.stdout.splitlines():
         name, needs = line.split("\t")
         first = {need.split("|")[0].split()[0].split(":")[0] for need in needs.split(",") if need.strip()}
-        found[name] = sorted(numbers.setdefault(need, len(numbers)) for need in first)[:30]
+        found[name] = sorted(numbers.setdefault(need, len(numbers)) for need in sorted(first))[:30]
     return found, len(numbers)
 
 
