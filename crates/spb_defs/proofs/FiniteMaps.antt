@@ -17,9 +17,10 @@ use Rattle.spb_edge.specs.declared.reader.Line.TheVariants as line
 use Rattle.spb_defs.specs.declared.Command.{Command}
 use Rattle.spb_defs.specs.declared.Command.TheVariants as command
 use Rattle.spb_defs.specs.declared.What.{What}
-use Rattle.spb_defs.specs.State.{Key, key_cmp, State, empty_in_memory, closed, object_at, is_full, with_object, without_object, IsFiniteMap}
+use Rattle.spb_defs.specs.State.{Key, key_cmp, State, empty_in_memory, closed, object_at, is_full, with_object, without_object}
+use Rattle.spb_defs.specs.FiniteMap.{IsFiniteMap}
 use Rattle.spb_defs.specs.Grammar.{command_of}
-use Rattle.spb_defs.specs.Step.{after, after_read, next}
+use Rattle.spb_defs.specs.Step.{after, changed_by, after_read, next}
 
 pub key_order : IsTotalOrder key_cmp
 key_order = then_total (on_total (λ (k : Key). k.0) nat_cmp_total) (on_total (λ (k : Key). k.1) nat_cmp_total)
@@ -123,7 +124,7 @@ finite_by_drop true s c id map =
 finite_by_drop false s c id map = map
 
 finite_by : (s : State) (c : Command) → IsFiniteMap s → IsFiniteMap (after s c)
-unfolding after
+unfolding changed_by
 finite_by s (command.Sample object) map = record { order = map.order; room = map.room }
 finite_by s (command.Add c id object) map = let t = closed s in finite_by_add (is_some (object_at t c id)) (is_full t) t c id object refl (finite_closed s map)
 finite_by s (command.Discard c id) map = let t = closed s in finite_by_drop (is_some (object_at t c id)) t c id (finite_closed s map)

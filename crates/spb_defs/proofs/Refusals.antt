@@ -10,7 +10,7 @@ use Rattle.spb_defs.specs.declared.Reply.TheVariants.{Done, Exists, Absent, Full
 use Rattle.spb_defs.specs.declared.What.{What}
 use Rattle.spb_defs.specs.State.{State, closed, object_at, is_full, with_object, without_object}
 use Rattle.spb_defs.specs.Grammar.{command_of}
-use Rattle.spb_defs.specs.Step.{sample_reply, with_sample, reply_to, after, reply_read, after_read, reply, next, IsRefusal, IsSample, ClosesSamples}
+use Rattle.spb_defs.specs.Step.{sample_reply, with_sample, reply_to, after, reply_of, changed_by, reply_read, after_read, reply, next, IsRefusal, IsSample, ClosesSamples}
 
 -- a sample, by the samples so far
 kept_by_room : (full : Bool) (kept more : List (List ℕ)) → IsRefusal (if full then Full else Done) → (if full then Some kept else Some more) ≡ Some kept
@@ -32,7 +32,7 @@ kept_by_drop true s less refused = absurd refused
 kept_by_drop false s less refused = refl
 
 kept_by : (s : State) (c : Command) → IsRefusal (reply_to s c) → (after s c ≡ s) ⊎ ((IsSample c → ⊥) × (after s c ≡ closed s))
-unfolding reply_to after
+unfolding reply_of changed_by
 kept_by s (command.Sample object) refused = inl (ap (λ (kept : Option (List (List ℕ))). record s { samples = kept }) (kept_by_sample s.samples object refused))
 kept_by s (command.Add c id object) refused =
     let t = closed s in

@@ -3,12 +3,15 @@ pub mod Pivots
 pub mod Choice
 pub mod Scans
 pub mod State
+pub mod FiniteMap
 pub mod Numbers
 pub mod ObjectText
 pub mod Grammar
 pub mod ReplyText
 pub mod Step
 pub mod Play
+pub mod Changes
+pub mod Measures
 pub mod Words
 pub mod Rows
 pub use Rattle.spb_edge.specs.Told

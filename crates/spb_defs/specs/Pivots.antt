@@ -1,26 +1,58 @@
--- The vector of an object: its distances to the pivots. What two vectors tell of a distance that
--- wasn't evaluated.
-use Rattle.std.specs.Prelude.{ℕ, ◌+◌, Bool, ◌&&◌, nat_le, List, [], ◌∷◌, map, if◌then◌else◌}
-use Rattle.std.specs.Int.{abs_diff}
+-- What is kept of an object: its distances to the pivots, and the cells that they lie in. What these tell of a distance
+-- that wasn't computed: a lower and an upper bound.
+use Rattle.std.specs.Prelude.{ℕ, ◌+◌, ◌-◌, Bool, ◌&&◌, nat_le, List, [], ◌∷◌, map, if◌then◌else◌}
 use Rattle.std.specs.List.{zip, list_all, list_any}
 
--- the distances of an object to the pivots, in their order
+-- ---- distances and their cells
+
+-- the cell of a distance
+abbrev pub cell_of : ℕ → ℕ
+cell_of distance = distance
+
+-- the least distance of a cell, and the greatest
+abbrev pub low_of : ℕ → ℕ
+low_of cell = cell
+
+abbrev pub high_of : ℕ → ℕ
+high_of cell = cell
+
+-- the vector of an object: its distances to the pivots, in their order
 abbrev pub vector_of : (List ℕ → List ℕ → ℕ) → List (List ℕ) → List ℕ → List ℕ
 vector_of dist pivots object = map (λ pivot. dist object pivot) pivots
 
--- no pivot shows that the two objects are further apart than the radius
-abbrev pub meets : List ℕ → ℕ → List ℕ → Bool
-meets a radius b = list_all (λ p. nat_le p.1 (p.0 + radius) && nat_le p.0 (p.1 + radius)) (zip a b)
-
--- some pivot shows that the two objects are within the radius
-abbrev pub is_sure : List ℕ → ℕ → List ℕ → Bool
-is_sure a radius b = list_any (λ p. nat_le (p.0 + p.1) radius) (zip a b)
+-- the cells of an object: those of its distances to the pivots
+abbrev pub cells_of : (List ℕ → List ℕ → ℕ) → List (List ℕ) → List ℕ → List ℕ
+cells_of dist pivots object = map (λ pivot. cell_of (dist object pivot)) pivots
 
 -- the greatest of the numbers, and 0 where there is none
 abbrev pub greatest : List ℕ → ℕ
 greatest [] = 0
 greatest (n ∷ ns) = let rest = greatest ns in if nat_le n rest then rest else n
 
--- what the pivots tell that two objects are apart at least: 0 without pivots
+-- ---- a query, by its vector, and an object, by its cells
+
+-- no pivot shows that the object is further from the query than the radius
+abbrev pub meets : List ℕ → ℕ → List ℕ → Bool
+meets asked radius cells = list_all (λ p. nat_le (low_of p.1) (p.0 + radius) && nat_le p.0 (high_of p.1 + radius)) (zip asked cells)
+
+-- some pivot shows that the object is within the radius of the query
+abbrev pub is_sure : List ℕ → ℕ → List ℕ → Bool
+is_sure asked radius cells = list_any (λ p. nat_le (p.0 + high_of p.1) radius) (zip asked cells)
+
+-- how far a distance is from the nearest one of a cell: `-` stops at 0, so one of the two terms is 0
+abbrev pub gap : ℕ → ℕ → ℕ
+gap distance cell = (distance - high_of cell) + (low_of cell - distance)
+
+-- the lower bound of the distance of query and object: 0 without pivots
 abbrev pub lower_bound : List ℕ → List ℕ → ℕ
-lower_bound a b = greatest (map (λ p. abs_diff p.0 p.1) (zip a b))
+lower_bound asked cells = greatest (map (λ p. gap p.0 p.1) (zip asked cells))
+
+-- ---- two objects, by their cells
+
+-- no pivot shows that the two are further apart than the radius
+abbrev pub pair_meets : List ℕ → ℕ → List ℕ → Bool
+pair_meets a radius b = list_all (λ p. nat_le (low_of p.1) (high_of p.0 + radius) && nat_le (low_of p.0) (high_of p.1 + radius)) (zip a b)
+
+-- some pivot shows that the two are within the radius of each other
+abbrev pub pair_is_sure : List ℕ → ℕ → List ℕ → Bool
+pair_is_sure a radius b = list_any (λ p. nat_le (high_of p.0 + high_of p.1) radius) (zip a b)

@@ -1,35 +1,54 @@
--- What scanning all objects of a collection answers, for any distance, and the number of distances
--- that the answer is worth.
+-- What scanning all objects of a collection answers, for any distance, and how many distance computations the answer
+-- costs with the pivots given.
 use Rattle.std.specs.Prelude.{ℕ, ◌+◌, ◌-◌, ◌&&◌, ◌++◌, Bool, true, not, nat_lt, nat_le, List, length, take, map, filter, count_by, Option, Some, None, if◌then◌else◌}
 use Rattle.std.specs.List.{flat_map, slice_get}
 use Rattle.answer_lists.specs.Order.{goes_before, arranged}
-use Rattle.spb_defs.specs.Pivots.{vector_of, meets, is_sure, lower_bound}
+use Rattle.spb_defs.specs.declared.RangeAnswer.{RangeAnswer}
+use Rattle.spb_defs.specs.declared.NearAnswer.{NearAnswer}
+use Rattle.spb_defs.specs.declared.JoinAnswer.{JoinAnswer}
+use Rattle.spb_defs.specs.Pivots.{vector_of, cells_of, meets, is_sure, lower_bound, pair_meets, pair_is_sure}
 
 -- an object of a collection with its id
 abbrev pub Row : Type 0
 Row = ℕ × List ℕ
 
--- the ids of the rows whose object is within the radius of the query, rising
-unfoldable pub scan_range : (List ℕ → List ℕ → ℕ) → List Row → List ℕ → ℕ → List ℕ
-scan_range dist rows query radius = arranged nat_lt (map (λ row. row.0) (filter (λ row. nat_le (dist query row.1) radius) rows))
+-- ---- ranges
 
--- how many rows are within the radius by the pivots alone
-unfoldable pub range_sure : (List ℕ → List ℕ → ℕ) → List (List ℕ) → List Row → List ℕ → ℕ → ℕ
-range_sure dist pivots rows query radius =
-    let asked = vector_of dist pivots query in
-    count_by (λ row. meets asked radius (vector_of dist pivots row.1) && is_sure asked radius (vector_of dist pivots row.1)) rows
+-- the ids of the rows whose object is within the radius of the query, rising
+abbrev pub scan_range : (List ℕ → List ℕ → ℕ) → List Row → List ℕ → ℕ → List ℕ
+scan_range dist rows query radius = arranged nat_lt (map (λ row. row.0) (filter (λ row. nat_le (dist query row.1) radius) rows))
 
 -- the pivots don't tell whether the row is within the radius of the query
 abbrev pub is_open : (List ℕ → List ℕ → ℕ) → List (List ℕ) → List ℕ → ℕ → Row → Bool
 is_open dist pivots query radius row =
     let asked = vector_of dist pivots query in
-    meets asked radius (vector_of dist pivots row.1) && not (is_sure asked radius (vector_of dist pivots row.1))
+    let cells = cells_of dist pivots row.1 in
+    meets asked radius cells && not (is_sure asked radius cells)
 
--- how many distances are evaluated: one for each pivot, and one for each row of which the pivots don't tell
-unfoldable pub range_evals : (List ℕ → List ℕ → ℕ) → List (List ℕ) → List Row → List ℕ → ℕ → ℕ
+-- the pivots alone tell that the row is within the radius of the query
+abbrev pub is_settled : (List ℕ → List ℕ → ℕ) → List (List ℕ) → List ℕ → ℕ → Row → Bool
+is_settled dist pivots query radius row =
+    let asked = vector_of dist pivots query in
+    let cells = cells_of dist pivots row.1 in
+    meets asked radius cells && is_sure asked radius cells
+
+-- how many distances are computed: one for each pivot, and one for each row of which the pivots don't tell
+abbrev pub range_evals : (List ℕ → List ℕ → ℕ) → List (List ℕ) → List Row → List ℕ → ℕ → ℕ
 range_evals dist pivots rows query radius = length pivots + count_by (is_open dist pivots query radius) rows
 
--- the objects that are evaluated, in the rows' order: first the pivots
+-- how many rows are within the radius by the pivots alone
+abbrev pub range_sure : (List ℕ → List ℕ → ℕ) → List (List ℕ) → List Row → List ℕ → ℕ → ℕ
+range_sure dist pivots rows query radius = count_by (is_settled dist pivots query radius) rows
+
+-- the answer to a range query
+unfoldable pub range_answer : (List ℕ → List ℕ → ℕ) → List (List ℕ) → List Row → List ℕ → ℕ → RangeAnswer
+range_answer dist pivots rows query radius = record {
+  ids = scan_range dist rows query radius;
+  evals = range_evals dist pivots rows query radius;
+  sure = range_sure dist pivots rows query radius;
+}
+
+-- the objects that the query is measured with, in the rows' order: first the pivots
 unfoldable pub range_visits : (List ℕ → List ℕ → ℕ) → List (List ℕ) → List Row → List ℕ → ℕ → List (List ℕ)
 range_visits dist pivots rows query radius = pivots ++ map (λ row. row.1) (filter (is_open dist pivots query radius) rows)
 
@@ -40,28 +59,35 @@ abbrev pub ranks_of : (List ℕ → List ℕ → ℕ) → List Row → List ℕ 
 ranks_of dist rows query = map (λ row. (dist query row.1, row.0)) rows
 
 -- the first k of all rows, by distance and then by id
-unfoldable pub scan_near : (List ℕ → List ℕ → ℕ) → List Row → List ℕ → ℕ → List (ℕ × ℕ)
+abbrev pub scan_near : (List ℕ → List ℕ → ℕ) → List Row → List ℕ → ℕ → List (ℕ × ℕ)
 scan_near dist rows query k = take k (arranged goes_before (ranks_of dist rows query))
 
 -- the k-th of all rows, if there are so many
 abbrev pub kth_rank : (List ℕ → List ℕ → ℕ) → List Row → List ℕ → ℕ → Option (ℕ × ℕ)
 kth_rank dist rows query k = slice_get (arranged goes_before (ranks_of dist rows query)) (k - 1)
 
--- the least rank that the pivots leave a row: its bound, with its id
+-- the least rank that the pivots leave a row: the lower bound of its distance, with its id
 abbrev pub bound_of : (List ℕ → List ℕ → ℕ) → List (List ℕ) → List ℕ → Row → ℕ × ℕ
-bound_of dist pivots query row = (lower_bound (vector_of dist pivots query) (vector_of dist pivots row.1), row.0)
+bound_of dist pivots query row = (lower_bound (vector_of dist pivots query) (cells_of dist pivots row.1), row.0)
 
 -- the pivots don't put the row behind the last rank; where there is none, none is behind it
 abbrev pub is_not_behind : (List ℕ → List ℕ → ℕ) → List (List ℕ) → List ℕ → Option (ℕ × ℕ) → Row → Bool
 is_not_behind dist pivots query None row = true
 is_not_behind dist pivots query (Some last) row = not (goes_before last (bound_of dist pivots query row))
 
--- how many distances are evaluated: one for each pivot, and one for each row whose bound and id the pivots
+-- how many distances are computed: one for each pivot, and one for each row whose bound and id the pivots
 -- don't put behind the k-th rank
-unfoldable pub near_evals : (List ℕ → List ℕ → ℕ) → List (List ℕ) → List Row → List ℕ → ℕ → ℕ
+abbrev pub near_evals : (List ℕ → List ℕ → ℕ) → List (List ℕ) → List Row → List ℕ → ℕ → ℕ
 near_evals dist pivots rows query k = length pivots + count_by (is_not_behind dist pivots query (kth_rank dist rows query k)) rows
 
--- the objects that are evaluated: first the pivots, then the rows by their bound and id
+-- the answer to a query for the k nearest
+unfoldable pub near_answer : (List ℕ → List ℕ → ℕ) → List (List ℕ) → List Row → List ℕ → ℕ → NearAnswer
+near_answer dist pivots rows query k = record {
+  rows = scan_near dist rows query k;
+  evals = near_evals dist pivots rows query k;
+}
+
+-- the objects that the query is measured with: first the pivots, then the rows by their bound and id
 unfoldable pub near_visits : (List ℕ → List ℕ → ℕ) → List (List ℕ) → List Row → List ℕ → ℕ → List (List ℕ)
 near_visits dist pivots rows query k =
     pivots
@@ -80,21 +106,38 @@ abbrev pub considered : Bool → List Row → List Row → List (Row × Row)
 considered same left right = if same then filter (λ p. nat_lt p.0.0 p.1.0) (product left right) else product left right
 
 -- the ids of the pairs whose objects are within the radius of each other, in order
-unfoldable pub scan_join : (List ℕ → List ℕ → ℕ) → List (Row × Row) → ℕ → List (ℕ × ℕ)
+abbrev pub scan_join : (List ℕ → List ℕ → ℕ) → List (Row × Row) → ℕ → List (ℕ × ℕ)
 scan_join dist pairs radius = arranged goes_before (map (λ p. (p.0.0, p.1.0)) (filter (λ p. nat_le (dist p.0.1 p.1.1) radius) pairs))
-
--- how many pairs are within the radius by the pivots alone
-unfoldable pub join_sure : (List ℕ → List ℕ → ℕ) → List (List ℕ) → List (Row × Row) → ℕ → ℕ
-join_sure dist pivots pairs radius =
-    count_by (λ p. meets (vector_of dist pivots p.0.1) radius (vector_of dist pivots p.1.1) && is_sure (vector_of dist pivots p.0.1) radius (vector_of dist pivots p.1.1)) pairs
 
 -- the pivots don't tell whether the objects of the pair are within the radius of each other
 abbrev pub is_open_pair : (List ℕ → List ℕ → ℕ) → List (List ℕ) → ℕ → Row × Row → Bool
-is_open_pair dist pivots radius p = is_open dist pivots p.0.1 radius p.1
+is_open_pair dist pivots radius p =
+    let a = cells_of dist pivots p.0.1 in
+    let b = cells_of dist pivots p.1.1 in
+    pair_meets a radius b && not (pair_is_sure a radius b)
 
--- how many distances are evaluated: one for each pair of which the pivots don't tell
-unfoldable pub join_evals : (List ℕ → List ℕ → ℕ) → List (List ℕ) → List (Row × Row) → ℕ → ℕ
+-- the pivots alone tell that the objects of the pair are within the radius of each other
+abbrev pub is_settled_pair : (List ℕ → List ℕ → ℕ) → List (List ℕ) → ℕ → Row × Row → Bool
+is_settled_pair dist pivots radius p =
+    let a = cells_of dist pivots p.0.1 in
+    let b = cells_of dist pivots p.1.1 in
+    pair_meets a radius b && pair_is_sure a radius b
+
+-- how many distances are computed: one for each pair of which the pivots don't tell
+abbrev pub join_evals : (List ℕ → List ℕ → ℕ) → List (List ℕ) → List (Row × Row) → ℕ → ℕ
 join_evals dist pivots pairs radius = count_by (is_open_pair dist pivots radius) pairs
+
+-- how many pairs are within the radius by the pivots alone
+abbrev pub join_sure : (List ℕ → List ℕ → ℕ) → List (List ℕ) → List (Row × Row) → ℕ → ℕ
+join_sure dist pivots pairs radius = count_by (is_settled_pair dist pivots radius) pairs
+
+-- the answer to a join of these pairs
+unfoldable pub join_answer : (List ℕ → List ℕ → ℕ) → List (List ℕ) → List (Row × Row) → ℕ → JoinAnswer
+join_answer dist pivots pairs radius = record {
+  pairs = scan_join dist pairs radius;
+  evals = join_evals dist pivots pairs radius;
+  sure = join_sure dist pivots pairs radius;
+}
 
 -- the pairs of objects that are measured
 unfoldable pub join_visits : (List ℕ → List ℕ → ℕ) → List (List ℕ) → List (Row × Row) → ℕ → List (List ℕ × List ℕ)

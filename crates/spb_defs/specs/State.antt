@@ -1,5 +1,5 @@
 -- The state of a store: what every command is answered from.
-use Rattle.std.specs.Prelude.{ℕ, ◌==◌, ◌≤◌, Bool, true, nat_le, List, [], length, min, count_by, Option, Some, None, if◌then◌else◌}
+use Rattle.std.specs.Prelude.{◌≡◌, ℕ, ◌==◌, ◌<◌, ◌≤◌, IsTrue, Bool, true, false, nat_le, List, [], length, min, count_by, All, Option, Some, None, IfSome, if◌then◌else◌}
 use Rattle.std.specs.List.{filter_map}
 use Rattle.std.specs.List.Sorted.{IsStrictlySortedBy}
 use Rattle.std.specs.Map.{lookup, remove_entry, keys_of}
@@ -7,8 +7,10 @@ use Rattle.std.specs.BTreeMap.{is_at, insert_entry}
 use Rattle.std.specs.Ordering.{nat_cmp, ordering_then}
 use Rattle.std.specs.declared.cmp.Ordering.{Ordering}
 use Rattle.metrics_builtin.specs.declared.Space.{Space}
-use Rattle.spb_defs.specs.declared.TheConstants.{MEMORY_CAP}
-use Rattle.metrics_builtin.specs.Space.{dist}
+use Rattle.metrics_builtin.specs.Space.{fits, IsValid, dist}
+use Rattle.spb_defs.specs.declared.TheConstants.{MEMORY_CAP, SAMPLE_LIMIT, PIVOT_LIMIT}
+use Rattle.spb_defs.specs.declared.CurveKind.{CurveKind}
+use Rattle.spb_defs.specs.declared.CurveKind.TheVariants.{Z, Hilbert}
 use Rattle.spb_defs.specs.Choice.{chosen_samples}
 use Rattle.spb_defs.specs.Scans.{Row}
 
@@ -24,13 +26,13 @@ key_cmp a b = ordering_then (nat_cmp a.0 b.0) (nat_cmp a.1 b.1)
 abbrev pub Members : Type 0
 Members = List (Key × List ℕ)
 
--- a space, how many pivots are wanted, the pivots, whether pairs may be asked for, the most members that there may
--- be, the samples while they are kept, and the members
+-- A space; how many pivots are wanted, and the pivots; the curve of a store in a file; the most members that there may
+-- be; the samples while they are kept; and the members.
 pub record State : Type 0 where
   pub space : Space
   pub wanted : ℕ
   pub pivots : List (List ℕ)
-  pub joins : Bool
+  pub curve : Option CurveKind
   pub cap : ℕ
   pub samples : Option (List (List ℕ))
   pub members : Members
@@ -38,7 +40,18 @@ pub record State : Type 0 where
 -- the store in memory before the first line, where so many pivots are wanted
 abbrev pub empty_in_memory : Space → ℕ → State
 empty_in_memory space wanted =
-    record { space = space; wanted = wanted; pivots = []; joins = true; cap = MEMORY_CAP; samples = Some []; members = [] }
+    record { space = space; wanted = wanted; pivots = []; curve = None; cap = MEMORY_CAP; samples = Some []; members = [] }
+
+-- the store in a file before the first line: its pivots were chosen when it was made
+abbrev pub empty_in_file : Space → CurveKind → List (List ℕ) → ℕ → State
+empty_in_file space curve pivots cap =
+    record { space = space; wanted = length pivots; pivots = pivots; curve = Some curve; cap = cap; samples = None; members = [] }
+
+-- whether pairs may be asked for: not over the Hilbert curve
+abbrev pub joins : Option CurveKind → Bool
+joins None = true
+joins (Some Z) = true
+joins (Some Hilbert) = false
 
 -- the pivots once the samples are closed: those chosen from the samples, as many as are wanted or as there are
 abbrev pub pivots_by : State → Option (List (List ℕ)) → List (List ℕ)
@@ -69,10 +82,24 @@ without_object members c id = remove_entry (is_at (key_cmp (c, id))) members
 abbrev pub count_of : Members → ℕ → ℕ
 count_of members c = count_by (λ member. member.0.0 == c) members
 
--- the members are a finite map, and no more than there may be
-pub record IsFiniteMap (s : State) : Type 0 where
+-- the samples, while they are kept: objects of the space, and no more than there may be
+abbrev pub AreSamples : Space → Option (List (List ℕ)) → Type 0
+AreSamples space samples = IfSome samples (λ kept. All (IsValid space) kept × (length kept ≤ SAMPLE_LIMIT))
+
+-- What holds of every state that lines lead to: the space fits; the members are a finite map from four collections'
+-- ids to objects of the space, within the cap; samples and pivots are objects of the space, within their limits; and
+-- while samples are kept there are no pivots and no members yet.
+pub record IsState (s : State) : Type 0 where
+  pub in_range : IsTrue (fits s.space)
   pub order : IsStrictlySortedBy key_cmp (keys_of s.members)
   pub room : length s.members ≤ s.cap
+  pub collections : All (λ member. member.0.0 < 4) s.members
+  pub objects : All (λ member. IsValid s.space member.1) s.members
+  pub samples : AreSamples s.space s.samples
+  pub pivots : All (IsValid s.space) s.pivots
+  pub few_pivots : length s.pivots ≤ s.wanted
+  pub few_wanted : s.wanted ≤ PIVOT_LIMIT
+  pub sampling : IfSome s.samples (λ kept. (s.pivots ≡ []) × (s.members ≡ []))
 
 -- the row of a member, where it is of the collection
 abbrev pub row_of : ℕ → Key × List ℕ → Option Row

@@ -10,8 +10,11 @@ use Rattle.spb_defs.specs.declared.Command.TheVariants as command
 use Rattle.spb_defs.specs.declared.Reply.{Reply}
 use Rattle.spb_defs.specs.declared.Reply.TheVariants.{Done, Exists, Absent, Full, Curve, Late, Object, Count, Range, Near, Join, Bad, Long}
 use Rattle.spb_defs.specs.declared.What.{What}
-use Rattle.spb_defs.specs.State.{State, closed, object_at, is_full, with_object, without_object, count_of, rows_of}
-use Rattle.spb_defs.specs.Scans.{scan_range, range_evals, range_sure, scan_near, near_evals, considered, scan_join, join_evals, join_sure}
+use Rattle.spb_defs.specs.declared.RangeAnswer.{RangeAnswer}
+use Rattle.spb_defs.specs.declared.NearAnswer.{NearAnswer}
+use Rattle.spb_defs.specs.declared.JoinAnswer.{JoinAnswer}
+use Rattle.spb_defs.specs.State.{State, closed, joins, object_at, is_full, with_object, without_object, count_of, rows_of}
+use Rattle.spb_defs.specs.Scans.{considered, range_answer, near_answer, join_answer}
 use Rattle.spb_defs.specs.Grammar.{command_of}
 
 -- ---- samples
@@ -26,50 +29,63 @@ abbrev pub with_sample : Option (List (List ℕ)) → List ℕ → Option (List 
 with_sample None object = None
 with_sample (Some kept) object = if nat_le SAMPLE_LIMIT (length kept) then Some kept else Some (kept ++ object ∷ [])
 
--- ---- commands, the samples being closed
+-- ---- commands
+
+-- the state that a command acts on: its samples are closed, unless the command is a sample
+abbrev pub acted_on : State → Command → State
+acted_on s (command.Sample object) = s
+acted_on s (command.Add c id object) = closed s
+acted_on s (command.Discard c id) = closed s
+acted_on s (command.Get c id) = closed s
+acted_on s (command.Count c) = closed s
+acted_on s (command.Range c r object) = closed s
+acted_on s (command.Near c k object) = closed s
+acted_on s (command.Join c d r) = closed s
 
 abbrev pub get_reply : Option (List ℕ) → Reply
 get_reply None = Absent
 get_reply (Some object) = Object object
 
-abbrev pub range_reply : State → ℕ → ℕ → List ℕ → Reply
-range_reply t c radius query =
-    let rows = rows_of t.members c in
-    Range (scan_range (dist t.space) rows query radius) (range_evals (dist t.space) t.pivots rows query radius) (range_sure (dist t.space) t.pivots rows query radius)
+abbrev pub range_reply : RangeAnswer → Reply
+range_reply answer = Range answer.ids answer.evals answer.sure
 
-abbrev pub near_reply : State → ℕ → ℕ → List ℕ → Reply
-near_reply t c k query =
-    let rows = rows_of t.members c in
-    Near (scan_near (dist t.space) rows query k) (near_evals (dist t.space) t.pivots rows query k)
+abbrev pub near_reply : NearAnswer → Reply
+near_reply answer = Near answer.rows answer.evals
 
-abbrev pub join_reply : State → ℕ → ℕ → ℕ → Reply
-join_reply t c d radius =
-    let pairs = considered (c == d) (rows_of t.members c) (rows_of t.members d) in
-    Join (scan_join (dist t.space) pairs radius) (join_evals (dist t.space) t.pivots pairs radius) (join_sure (dist t.space) t.pivots pairs radius)
+abbrev pub join_reply : JoinAnswer → Reply
+join_reply answer = Join answer.pairs answer.evals answer.sure
 
--- the reply to a command
-unfoldable pub reply_to : State → Command → Reply
-reply_to s (command.Sample object) = sample_reply s.samples
-reply_to s (command.Add c id object) = let t = closed s in if is_some (object_at t c id) then Exists else (if is_full t then Full else Done)
-reply_to s (command.Discard c id) = if is_some (object_at (closed s) c id) then Done else Absent
-reply_to s (command.Get c id) = get_reply (object_at (closed s) c id)
-reply_to s (command.Count c) = Count (count_of (closed s).members c)
-reply_to s (command.Range c r object) = range_reply (closed s) c r object
-reply_to s (command.Near c k object) = near_reply (closed s) c k object
-reply_to s (command.Join c d r) = if s.joins then join_reply (closed s) c d r else Curve
+-- the reply of the state that a command acts on
+unfoldable pub reply_of : State → Command → Reply
+reply_of t (command.Sample object) = sample_reply t.samples
+reply_of t (command.Add c id object) = if is_some (object_at t c id) then Exists else (if is_full t then Full else Done)
+reply_of t (command.Discard c id) = if is_some (object_at t c id) then Done else Absent
+reply_of t (command.Get c id) = get_reply (object_at t c id)
+reply_of t (command.Count c) = Count (count_of t.members c)
+reply_of t (command.Range c r object) = range_reply (range_answer (dist t.space) t.pivots (rows_of t.members c) object r)
+reply_of t (command.Near c k object) = near_reply (near_answer (dist t.space) t.pivots (rows_of t.members c) object k)
+reply_of t (command.Join c d r) =
+    if joins t.curve then join_reply (join_answer (dist t.space) t.pivots (considered (c == d) (rows_of t.members c) (rows_of t.members d)) r)
+    else Curve
 
--- the state after a command: each but a sample closes the samples
-unfoldable pub after : State → Command → State
-after s (command.Sample object) = record s { samples = with_sample s.samples object }
-after s (command.Add c id object) =
-    let t = closed s in
+-- that state after the command
+unfoldable pub changed_by : State → Command → State
+changed_by t (command.Sample object) = record t { samples = with_sample t.samples object }
+changed_by t (command.Add c id object) =
     if is_some (object_at t c id) then t else (if is_full t then t else record t { members = with_object t.members c id object })
-after s (command.Discard c id) = let t = closed s in if is_some (object_at t c id) then record t { members = without_object t.members c id } else t
-after s (command.Get c id) = closed s
-after s (command.Count c) = closed s
-after s (command.Range c r object) = closed s
-after s (command.Near c k object) = closed s
-after s (command.Join c d r) = closed s
+changed_by t (command.Discard c id) = if is_some (object_at t c id) then record t { members = without_object t.members c id } else t
+changed_by t (command.Get c id) = t
+changed_by t (command.Count c) = t
+changed_by t (command.Range c r object) = t
+changed_by t (command.Near c k object) = t
+changed_by t (command.Join c d r) = t
+
+-- the reply to a command, and the state after it
+abbrev pub reply_to : State → Command → Reply
+reply_to s asked = reply_of (acted_on s asked) asked
+
+abbrev pub after : State → Command → State
+after s asked = changed_by (acted_on s asked) asked
 
 -- ---- lines
 

@@ -8,7 +8,8 @@ ghost use Rattle.std.specs.Prelude.{◌≡◌, ◌⊎◌, ◌≤◌, ℕ, [], �
 ghost use Rattle.spb_defs.specs.Play.{play};
 ghost use Rattle.spb_edge.specs.declared.reader.Line.{Line};
 ghost use Rattle.metrics_builtin.specs.declared.Space.{Space};
-ghost use Rattle.spb_defs.specs.State.{State, IsFiniteMap, closed, empty_in_memory};
+ghost use Rattle.spb_defs.specs.State.{State, closed, empty_in_memory};
+ghost use Rattle.spb_defs.specs.FiniteMap.{IsFiniteMap};
 ghost use Rattle.spb_defs.specs.Step.{reply, next, IsRefusal, ClosesSamples};
 ghost use Rattle.spb_defs.specs.Rows.{AreAnswered, AreAnsweredWith, three_samples, thrice_ok, ended, plane};
 
@@ -37,6 +38,15 @@ pub const PIVOT_LIMIT: u64 = 8;
 pub struct MemorySetup {
     pub space: Space,
     pub pivots: u8,
+}
+
+/// The curve by which a store in a file keeps its objects in order.
+#[derive(Clone, Copy, Debug, PartialEq, Eq)]
+pub enum CurveKind {
+    /// The Z-order curve, over which joins are answered.
+    Z,
+    /// The Hilbert curve.
+    Hilbert,
 }
 
 /// A line that is a command. A collection `c` or `d` is 0 to 3.
@@ -73,6 +83,37 @@ pub enum What {
     Number,
     /// A text that isn't that of an object of the space.
     Object,
+}
+
+/// The answer to a range query.
+#[derive(Debug, Drop)]
+pub struct RangeAnswer {
+    /// The ids of the objects within the radius, rising.
+    pub ids: Ids,
+    /// How many distances were computed, those to the pivots among them.
+    pub evals: u64,
+    /// How many objects are within the radius by the pivots alone.
+    pub sure: u64,
+}
+
+/// The answer to a query for the nearest neighbours.
+#[derive(Debug, Drop)]
+pub struct NearAnswer {
+    /// Each as its distance and id, by distance and then by id.
+    pub rows: Ranks,
+    /// How many distances were computed, those to the pivots among them.
+    pub evals: u64,
+}
+
+/// The answer to a similarity join.
+#[derive(Debug, Drop)]
+pub struct JoinAnswer {
+    /// The pairs of ids within the radius of each other, in order.
+    pub pairs: Pairs,
+    /// How many distances were computed.
+    pub evals: u64,
+    /// How many pairs are within the radius by the pivots alone.
+    pub sure: u64,
 }
 
 /// What a line is answered.
