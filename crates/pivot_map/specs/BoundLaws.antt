@@ -1,4 +1,4 @@
--- What the vectors of two objects tell of their distance follows from the laws of a distance, pivot by pivot.
+-- What the cells of an object tell of a distance follows from the laws of a distance, pivot by pivot.
 use Rattle.std.proofs.Common.{◌≡◌, ℕ, ◌+◌, ◌≤◌, Bool, true, false, ◌&&◌, ◌||◌, List, [], ◌∷◌, ◌++◌, length, refl, sym, ap, ◌∙◌, arith}
 use Rattle.std.specs.Prelude.{nat_le, All, if◌then◌else◌}
 use Rattle.std.specs.Int.{abs_diff}
@@ -8,7 +8,7 @@ use Rattle.std.proofs.lemmas.List.Elements.{All-head, All-tail}
 use Rattle.metric_laws.specs.Laws.{IsDistance}
 use Rattle.metric_laws.specs.Pivots.{BoundByPivots}
 use Rattle.metric_laws.specs.PivotLaws.{bound_by_distance}
-use Rattle.spb_defs.specs.Pivots.{vector_of, meets, is_sure, lower_bound}
+use Rattle.spb_defs.specs.Pivots.{vector_of, cells_of, meets, is_sure, lower_bound, gap, pair_meets, pair_is_sure}
 use Rattle.pivot_map.specs.Bounds.{BoundsHold}
 
 -- ---- one coordinate
@@ -34,7 +34,7 @@ greater-within x y most h k = grind (arith, nat_tests)
 
 -- ---- all coordinates
 
-within_meets : (admitted : List ℕ → Type 0) (dist : List ℕ → List ℕ → ℕ) → BoundByPivots admitted dist → (pivots : List (List ℕ)) → All admitted pivots → (a b : List ℕ) (radius : ℕ) → admitted a → admitted b → dist a b ≤ radius → meets (vector_of dist pivots a) radius (vector_of dist pivots b) ≡ true
+within_meets : (admitted : List ℕ → Type 0) (dist : List ℕ → List ℕ → ℕ) → BoundByPivots admitted dist → (pivots : List (List ℕ)) → All admitted pivots → (a b : List ℕ) (radius : ℕ) → admitted a → admitted b → dist a b ≤ radius → meets (vector_of dist pivots a) radius (cells_of dist pivots b) ≡ true
 within_meets admitted dist m [] all a b radius f g h = refl
 within_meets admitted dist m (p ∷ ps) all a b radius f g h =
     let apart : abs_diff (dist a p) (dist b p) ≤ dist a b = m.lower a b p f g (All-head admitted p ps all) in
@@ -47,18 +47,18 @@ one-of : (first rest : Bool) (P : Type 0) → (first || rest) ≡ true → (firs
 one-of true rest P h f g = f refl
 one-of false rest P h f g = g h
 
-sure_within : (admitted : List ℕ → Type 0) (dist : List ℕ → List ℕ → ℕ) → BoundByPivots admitted dist → (pivots : List (List ℕ)) → All admitted pivots → (a b : List ℕ) (radius : ℕ) → admitted a → admitted b → is_sure (vector_of dist pivots a) radius (vector_of dist pivots b) ≡ true → dist a b ≤ radius
+sure_within : (admitted : List ℕ → Type 0) (dist : List ℕ → List ℕ → ℕ) → BoundByPivots admitted dist → (pivots : List (List ℕ)) → All admitted pivots → (a b : List ℕ) (radius : ℕ) → admitted a → admitted b → is_sure (vector_of dist pivots a) radius (cells_of dist pivots b) ≡ true → dist a b ≤ radius
 sure_within admitted dist m [] all a b radius f g h = absurd (let none : false ≡ true = h in cc)
 sure_within admitted dist m (p ∷ ps) all a b radius f g h =
     let round : dist a b ≤ dist a p + dist b p = m.upper a b p f g (All-head admitted p ps all) in
-    one-of (nat_le (dist a p + dist b p) radius) (is_sure (vector_of dist ps a) radius (vector_of dist ps b)) (dist a b ≤ radius) h
+    one-of (nat_le (dist a p + dist b p) radius) (is_sure (vector_of dist ps a) radius (cells_of dist ps b)) (dist a b ≤ radius) h
     (λ first. omega (arith, round, sum-within (dist a p) (dist b p) radius first))
     (λ rest. sure_within admitted dist m ps (All-tail admitted p ps all) a b radius f g rest)
 
-bound_below : (admitted : List ℕ → Type 0) (dist : List ℕ → List ℕ → ℕ) → BoundByPivots admitted dist → (pivots : List (List ℕ)) → All admitted pivots → (a b : List ℕ) → admitted a → admitted b → lower_bound (vector_of dist pivots a) (vector_of dist pivots b) ≤ dist a b
+bound_below : (admitted : List ℕ → Type 0) (dist : List ℕ → List ℕ → ℕ) → BoundByPivots admitted dist → (pivots : List (List ℕ)) → All admitted pivots → (a b : List ℕ) → admitted a → admitted b → lower_bound (vector_of dist pivots a) (cells_of dist pivots b) ≤ dist a b
 bound_below admitted dist m [] all a b f g = omega arith
 bound_below admitted dist m (p ∷ ps) all a b f g =
-    greater-within (abs_diff (dist a p) (dist b p)) (lower_bound (vector_of dist ps a) (vector_of dist ps b)) (dist a b)
+    greater-within (gap (dist a p) (dist b p)) (lower_bound (vector_of dist ps a) (cells_of dist ps b)) (dist a b)
     (m.lower a b p f g (All-head admitted p ps all))
     (bound_below admitted dist m ps (All-tail admitted p ps all) a b f g)
 
@@ -69,63 +69,51 @@ bounds_hold admitted dist laws pivots all =
       within_meets = within_meets admitted dist m pivots all;
       sure_within = sure_within admitted dist m pivots all;
       bound_below = bound_below admitted dist m pivots all;
+      within_pair_meets = within_meets admitted dist m pivots all;
+      pair_sure_within = sure_within admitted dist m pivots all;
     }
 
--- ---- vectors
+-- ---- vectors and cells
 
 -- a vector has a coordinate for each pivot
 pub length-vector_of : (dist : List ℕ → List ℕ → ℕ) (pivots : List (List ℕ)) (object : List ℕ) → length (vector_of dist pivots object) ≡ length pivots
 length-vector_of dist pivots object = length-map pivots (λ pivot. dist object pivot)
 
--- distances that are the same on admitted objects give them the same vectors
-pub vector_of-agrees : (admitted : List ℕ → Type 0) (dist other : List ℕ → List ℕ → ℕ) → ((a b : List ℕ) → admitted a → admitted b → dist a b ≡ other a b) → (pivots : List (List ℕ)) → All admitted pivots → (object : List ℕ) → admitted object → vector_of dist pivots object ≡ vector_of other pivots object
-vector_of-agrees admitted dist other same [] all object f = refl
-vector_of-agrees admitted dist other same (p ∷ ps) all object f =
-    let first : dist object p ≡ other object p = same object p f (All-head admitted p ps all) in
-    let rest : vector_of dist ps object ≡ vector_of other ps object = vector_of-agrees admitted dist other same ps (All-tail admitted p ps all) object f in
-    cc
+-- and so have the cells of an object
+pub length-cells_of : (dist : List ℕ → List ℕ → ℕ) (pivots : List (List ℕ)) (object : List ℕ) → length (cells_of dist pivots object) ≡ length pivots
+length-cells_of dist pivots object = length-map pivots (λ pivot. dist object pivot)
 
--- the vectors of two lists of pivots, one after the other
-pub vector_of-append : (dist : List ℕ → List ℕ → ℕ) (pivots more : List (List ℕ)) (object : List ℕ) → vector_of dist (pivots ++ more) object ≡ vector_of dist pivots object ++ vector_of dist more object
-vector_of-append dist [] more object = refl
-vector_of-append dist (p ∷ ps) more object = ap (λ rest. dist object p ∷ rest) (vector_of-append dist ps more object)
+-- ---- bounds and tests
 
--- ---- what two vectors tell
-
-within-step : (x y radius most : ℕ) (met : Bool) → met ≡ nat_le most radius → (near x radius y && met) ≡ nat_le (if nat_le (abs_diff x y) most then most else abs_diff x y) radius
+within-step : (x y radius most : ℕ) (met : Bool) → met ≡ nat_le most radius → (near x radius y && met) ≡ nat_le (if nat_le (gap x y) most then most else gap x y) radius
 within-step x y radius most met h = grind (arith, nat_tests)
 
 zero-within : (radius : ℕ) → true ≡ nat_le 0 radius
 zero-within radius = grind (arith, nat_tests)
 
--- two vectors meet exactly where their lower bound is within the radius
-pub meets-by-bound : (a b : List ℕ) (radius : ℕ) → meets a radius b ≡ nat_le (lower_bound a b) radius
-meets-by-bound [] b radius = zero-within radius
+-- a query and an object meet exactly where the lower bound is within the radius
+pub meets-by-bound : (asked cells : List ℕ) (radius : ℕ) → meets asked radius cells ≡ nat_le (lower_bound asked cells) radius
+meets-by-bound [] cells radius = zero-within radius
 meets-by-bound (x ∷ xs) [] radius = zero-within radius
 meets-by-bound (x ∷ xs) (y ∷ ys) radius = within-step x y radius (lower_bound xs ys) (meets xs radius ys) (meets-by-bound xs ys radius)
 
-abs_diff-symmetric : (x y : ℕ) → abs_diff x y ≡ abs_diff y x
-abs_diff-symmetric x y = omega arith
+near-symmetric : (x y radius : ℕ) → near x radius y ≡ near y radius x
+near-symmetric x y radius = grind (arith, nat_tests)
 
--- the bound is the same both ways
-pub lower_bound-symmetric : (a b : List ℕ) → lower_bound a b ≡ lower_bound b a
-lower_bound-symmetric [] [] = refl
-lower_bound-symmetric [] (y ∷ ys) = refl
-lower_bound-symmetric (x ∷ xs) [] = refl
-lower_bound-symmetric (x ∷ xs) (y ∷ ys) =
-    ap (λ (d : ℕ). if nat_le d (lower_bound xs ys) then lower_bound xs ys else d) (abs_diff-symmetric x y)
-    ∙ ap (λ (rest : ℕ). if nat_le (abs_diff y x) rest then rest else abs_diff y x) (lower_bound-symmetric xs ys)
+-- two objects meet both ways
+pub pair_meets-symmetric : (a b : List ℕ) (radius : ℕ) → pair_meets a radius b ≡ pair_meets b radius a
+pair_meets-symmetric [] [] radius = refl
+pair_meets-symmetric [] (y ∷ ys) radius = refl
+pair_meets-symmetric (x ∷ xs) [] radius = refl
+pair_meets-symmetric (x ∷ xs) (y ∷ ys) radius =
+    ap (λ met. met && pair_meets xs radius ys) (near-symmetric x y radius) ∙ ap (λ rest. near y radius x && rest) (pair_meets-symmetric xs ys radius)
 
--- vectors meet both ways
-pub meets-symmetric : (a b : List ℕ) (radius : ℕ) → meets a radius b ≡ meets b radius a
-meets-symmetric a b radius = meets-by-bound a b radius ∙ ap (λ bound. nat_le bound radius) (lower_bound-symmetric a b) ∙ sym (meets-by-bound b a radius)
-
--- they are sure both ways
-pub is_sure-symmetric : (a b : List ℕ) (radius : ℕ) → is_sure a radius b ≡ is_sure b radius a
-is_sure-symmetric [] [] radius = refl
-is_sure-symmetric [] (y ∷ ys) radius = refl
-is_sure-symmetric (x ∷ xs) [] radius = refl
-is_sure-symmetric (x ∷ xs) (y ∷ ys) radius =
+-- and that is sure both ways
+pub pair_is_sure-symmetric : (a b : List ℕ) (radius : ℕ) → pair_is_sure a radius b ≡ pair_is_sure b radius a
+pair_is_sure-symmetric [] [] radius = refl
+pair_is_sure-symmetric [] (y ∷ ys) radius = refl
+pair_is_sure-symmetric (x ∷ xs) [] radius = refl
+pair_is_sure-symmetric (x ∷ xs) (y ∷ ys) radius =
     let swapped : x + y ≡ y + x = omega arith in
-    ap (λ n. nat_le n radius || is_sure xs radius ys) swapped
-    ∙ ap (λ rest. nat_le (y + x) radius || rest) (is_sure-symmetric xs ys radius)
+    ap (λ n. nat_le n radius || pair_is_sure xs radius ys) swapped
+    ∙ ap (λ rest. nat_le (y + x) radius || rest) (pair_is_sure-symmetric xs ys radius)

@@ -1,9 +1,13 @@
--- What the vectors of two objects tell of their distance, for any distance that is a metric.
+-- What the cells of an object tell of its distance from a query and from another object, for any distance that is a metric.
 use Rattle.std.specs.Prelude.{ℕ, ◌≤◌, IsTrue, List}
-use Rattle.spb_defs.specs.Pivots.{vector_of, meets, is_sure, lower_bound}
+use Rattle.spb_defs.specs.Pivots.{vector_of, cells_of, meets, is_sure, lower_bound, pair_meets, pair_is_sure}
 
--- objects within the radius meet, those that are sure are within it, and none is nearer than the bound
+-- what is within the radius meets, what is sure is within it, and nothing is nearer than the lower bound
 pub record BoundsHold (admitted : List ℕ → Type 0) (dist : List ℕ → List ℕ → ℕ) (pivots : List (List ℕ)) : Type 0 where
-  pub within_meets : (a b : List ℕ) (radius : ℕ) → admitted a → admitted b → dist a b ≤ radius → IsTrue (meets (vector_of dist pivots a) radius (vector_of dist pivots b))
-  pub sure_within : (a b : List ℕ) (radius : ℕ) → admitted a → admitted b → IsTrue (is_sure (vector_of dist pivots a) radius (vector_of dist pivots b)) → dist a b ≤ radius
-  pub bound_below : (a b : List ℕ) → admitted a → admitted b → lower_bound (vector_of dist pivots a) (vector_of dist pivots b) ≤ dist a b
+  -- of a query and an object
+  pub within_meets : (q o : List ℕ) (radius : ℕ) → admitted q → admitted o → dist q o ≤ radius → IsTrue (meets (vector_of dist pivots q) radius (cells_of dist pivots o))
+  pub sure_within : (q o : List ℕ) (radius : ℕ) → admitted q → admitted o → IsTrue (is_sure (vector_of dist pivots q) radius (cells_of dist pivots o)) → dist q o ≤ radius
+  pub bound_below : (q o : List ℕ) → admitted q → admitted o → lower_bound (vector_of dist pivots q) (cells_of dist pivots o) ≤ dist q o
+  -- of two objects
+  pub within_pair_meets : (a b : List ℕ) (radius : ℕ) → admitted a → admitted b → dist a b ≤ radius → IsTrue (pair_meets (cells_of dist pivots a) radius (cells_of dist pivots b))
+  pub pair_sure_within : (a b : List ℕ) (radius : ℕ) → admitted a → admitted b → IsTrue (pair_is_sure (cells_of dist pivots a) radius (cells_of dist pivots b)) → dist a b ≤ radius

@@ -1,6 +1,6 @@
--- Rows: objects with their ids and their distances to the pivots.
+-- Rows: objects with their ids and their cells.
 use Rattle.std.specs.Prelude.{◌≡◌, ◌≢◌, ℕ, ◌^◌, ◌≤◌, List, length, map, All, AllPairs}
-use Rattle.spb_defs.specs.Pivots.{vector_of}
+use Rattle.spb_defs.specs.Pivots.{cells_of}
 use Rattle.pivot_map.specs.declared.row.Row.{Row}
 
 -- the row's id and object
@@ -15,9 +15,9 @@ pub record ArePivots (admitted : List ℕ → Type 0) (pivots : List (List ℕ))
   pub few : length pivots ≤ 8
   pub objects : All admitted pivots
 
--- rows of objects that are measured, each with its distances to the pivots, and no two with one id
+-- rows of objects that are measured, each with its cells, and no two with one id
 pub record AreRows (admitted : List ℕ → Type 0) (dist : List ℕ → List ℕ → ℕ) (pivots : List (List ℕ)) (rows : List Row) : Type 0 where
   pub few : length rows ≤ 2 ^ 31
   pub objects : All (λ (row : Row). admitted row.object) rows
-  pub vects : All (λ (row : Row). row.vect ≡ vector_of dist pivots row.object) rows
+  pub vects : All (λ (row : Row). row.vect ≡ cells_of dist pivots row.object) rows
   pub ids : AllPairs (λ (a b : Row). a.id ≢ b.id) rows

@@ -1,50 +1,46 @@
--- Laws of what two vectors tell.
+-- Laws of what the pivots tell.
 use Rattle.std.proofs.Common.{◌≡◌, ℕ, ◌<◌, ◌≤◌, Bool, true, false, ◌&&◌, List, refl, sym, ap, subst, ◌∙◌, arith}
 use Rattle.std.specs.Prelude.{not}
-use Rattle.spb_defs.specs.Pivots.{vector_of, meets, is_sure}
+use Rattle.spb_defs.specs.Pivots.{vector_of, cells_of, meets, is_sure, pair_meets, pair_is_sure}
 use Rattle.pivot_map.specs.declared.verdict.PairTest.{PairTest}
 use Rattle.pivot_map.specs.declared.verdict.PairTest.TheVariants.{Apart, Open, Sure}
 use Rattle.pivot_map.specs.Bounds.{BoundsHold}
-use Rattle.pivot_map.specs.BoundLaws.{meets-symmetric, is_sure-symmetric}
-use Rattle.pivot_map.specs.Verdicts.{verdict, pair_verdict, Tells, is_open_test, is_sure_test, Settles}
+use Rattle.pivot_map.specs.BoundLaws.{pair_meets-symmetric, pair_is_sure-symmetric}
+use Rattle.pivot_map.specs.Verdicts.{verdict, query_verdict, pair_verdict, Tells, is_open_test, is_sure_test, Settles}
 
 tells-of : (met sure : Bool) → Tells (verdict met sure) met sure
 tells-of false sure = refl
 tells-of true false = (refl, refl)
 tells-of true true = (refl, refl)
 
--- the verdict tells the two tests
-pub tells : (a b : List ℕ) (radius : ℕ) → Tells (pair_verdict a radius b) (meets a radius b) (is_sure a radius b)
-tells a b radius = tells-of (meets a radius b) (is_sure a radius b)
-
-tells-by : (told is : PairTest) (met sure : Bool) → is ≡ told → Tells is met sure → Tells told met sure
-tells-by told is met sure h t = subst (λ v. Tells v met sure) h t
-
--- the same, where the verdict is known
-pub tells-where : (told : PairTest) (a b : List ℕ) (radius : ℕ) → pair_verdict a radius b ≡ told → Tells told (meets a radius b) (is_sure a radius b)
-tells-where told a b radius h = tells-by told (pair_verdict a radius b) (meets a radius b) (is_sure a radius b) h (tells a b radius)
-
 open-of : (met sure : Bool) → (met && not sure) ≡ is_open_test (verdict met sure)
 open-of false sure = refl
 open-of true false = refl
 open-of true true = refl
 
--- the pairs that are measured are those that are open
-pub open-by-verdict : (a b : List ℕ) (radius : ℕ) → (meets a radius b && not (is_sure a radius b)) ≡ is_open_test (pair_verdict a radius b)
-open-by-verdict a b radius = open-of (meets a radius b) (is_sure a radius b)
+-- what is measured is what is open: of a query and an object, and of two objects
+pub open-by-query_verdict : (asked cells : List ℕ) (radius : ℕ) → (meets asked radius cells && not (is_sure asked radius cells)) ≡ is_open_test (query_verdict asked radius cells)
+open-by-query_verdict asked cells radius = open-of (meets asked radius cells) (is_sure asked radius cells)
+
+pub open-by-pair_verdict : (a b : List ℕ) (radius : ℕ) → (pair_meets a radius b && not (pair_is_sure a radius b)) ≡ is_open_test (pair_verdict a radius b)
+open-by-pair_verdict a b radius = open-of (pair_meets a radius b) (pair_is_sure a radius b)
 
 sure-of : (met sure : Bool) → (met && sure) ≡ is_sure_test (verdict met sure)
 sure-of false sure = refl
 sure-of true false = refl
 sure-of true true = refl
 
--- the pairs that count as sure are those whose verdict it is
-pub sure-by-verdict : (a b : List ℕ) (radius : ℕ) → (meets a radius b && is_sure a radius b) ≡ is_sure_test (pair_verdict a radius b)
-sure-by-verdict a b radius = sure-of (meets a radius b) (is_sure a radius b)
+-- what counts as sure is what is so by its verdict
+pub sure-by-query_verdict : (asked cells : List ℕ) (radius : ℕ) → (meets asked radius cells && is_sure asked radius cells) ≡ is_sure_test (query_verdict asked radius cells)
+sure-by-query_verdict asked cells radius = sure-of (meets asked radius cells) (is_sure asked radius cells)
 
--- the verdict is the same both ways
+pub sure-by-pair_verdict : (a b : List ℕ) (radius : ℕ) → (pair_meets a radius b && pair_is_sure a radius b) ≡ is_sure_test (pair_verdict a radius b)
+sure-by-pair_verdict a b radius = sure-of (pair_meets a radius b) (pair_is_sure a radius b)
+
+-- the verdict on two objects is the same both ways
 pub pair_verdict-symmetric : (a b : List ℕ) (radius : ℕ) → pair_verdict a radius b ≡ pair_verdict b radius a
-pair_verdict-symmetric a b radius = ap (λ met. verdict met (is_sure a radius b)) (meets-symmetric a b radius) ∙ ap (λ sure. verdict (meets b radius a) sure) (is_sure-symmetric a b radius)
+pair_verdict-symmetric a b radius =
+    ap (λ met. verdict met (pair_is_sure a radius b)) (pair_meets-symmetric a b radius) ∙ ap (λ sure. verdict (pair_meets b radius a) sure) (pair_is_sure-symmetric a b radius)
 
 -- ---- what the verdict tells of the distance
 
@@ -56,11 +52,22 @@ settles-by distance radius Apart met sure t f g = further radius distance (λ h.
 settles-by distance radius Open met sure t f g = tt
 settles-by distance radius Sure met sure (m, s) f g = g s
 
--- the verdict of two objects' vectors tells their distance
-pub settles : (admitted : List ℕ → Type 0) (dist : List ℕ → List ℕ → ℕ) (pivots : List (List ℕ)) → BoundsHold admitted dist pivots → (a b : List ℕ) (radius : ℕ) → admitted a → admitted b → Settles (pair_verdict (vector_of dist pivots a) radius (vector_of dist pivots b)) (dist a b) radius
-settles admitted dist pivots bounds a b radius f g =
-    let va = vector_of dist pivots a in
-    let vb = vector_of dist pivots b in
-    settles-by (dist a b) radius (pair_verdict va radius vb) (meets va radius vb) (is_sure va radius vb) (tells va vb radius)
-    (bounds.within_meets a b radius f g)
-    (bounds.sure_within a b radius f g)
+-- the verdict on a query and an object tells their distance
+pub query_settles : (admitted : List ℕ → Type 0) (dist : List ℕ → List ℕ → ℕ) (pivots : List (List ℕ)) → BoundsHold admitted dist pivots → (q o : List ℕ) (radius : ℕ) → admitted q → admitted o
+    → Settles (query_verdict (vector_of dist pivots q) radius (cells_of dist pivots o)) (dist q o) radius
+query_settles admitted dist pivots bounds q o radius f g =
+    let asked = vector_of dist pivots q in
+    let cells = cells_of dist pivots o in
+    settles-by (dist q o) radius (query_verdict asked radius cells) (meets asked radius cells) (is_sure asked radius cells) (tells-of (meets asked radius cells) (is_sure asked radius cells))
+    (bounds.within_meets q o radius f g)
+    (bounds.sure_within q o radius f g)
+
+-- and the verdict on two objects tells theirs
+pub pair_settles : (admitted : List ℕ → Type 0) (dist : List ℕ → List ℕ → ℕ) (pivots : List (List ℕ)) → BoundsHold admitted dist pivots → (a b : List ℕ) (radius : ℕ) → admitted a → admitted b
+    → Settles (pair_verdict (cells_of dist pivots a) radius (cells_of dist pivots b)) (dist a b) radius
+pair_settles admitted dist pivots bounds a b radius f g =
+    let x = cells_of dist pivots a in
+    let y = cells_of dist pivots b in
+    settles-by (dist a b) radius (pair_verdict x radius y) (pair_meets x radius y) (pair_is_sure x radius y) (tells-of (pair_meets x radius y) (pair_is_sure x radius y))
+    (bounds.within_pair_meets a b radius f g)
+    (bounds.pair_sure_within a b radius f g)

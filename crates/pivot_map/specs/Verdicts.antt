@@ -1,6 +1,6 @@
--- What the vectors of two objects tell of whether they are within a radius of each other.
+-- What the pivots tell of whether a distance is within a radius.
 use Rattle.std.specs.Prelude.{◌≡◌, ℕ, ◌<◌, ◌≤◌, Bool, true, false, List}
-use Rattle.spb_defs.specs.Pivots.{meets, is_sure}
+use Rattle.spb_defs.specs.Pivots.{meets, is_sure, pair_meets, pair_is_sure}
 use Rattle.pivot_map.specs.declared.verdict.PairTest.{PairTest}
 use Rattle.pivot_map.specs.declared.verdict.PairTest.TheVariants.{Apart, Open, Sure}
 
@@ -10,9 +10,13 @@ verdict false sure = Apart
 verdict true false = Open
 verdict true true = Sure
 
--- what the pivots tell: apart where the two don't meet, else sure where that is sure, else open
+-- what the pivots tell of a query and an object: apart where the two don't meet, else sure where that is sure, else open
+abbrev pub query_verdict : List ℕ → ℕ → List ℕ → PairTest
+query_verdict asked radius cells = verdict (meets asked radius cells) (is_sure asked radius cells)
+
+-- and of two objects
 abbrev pub pair_verdict : List ℕ → ℕ → List ℕ → PairTest
-pair_verdict a radius b = verdict (meets a radius b) (is_sure a radius b)
+pair_verdict a radius b = verdict (pair_meets a radius b) (pair_is_sure a radius b)
 
 -- the two tests, by what is told
 abbrev pub Tells : PairTest → Bool → Bool → Type 0

@@ -1,15 +1,15 @@
-//! What the vectors of two objects tell of their distance, as contracts.
+//! What the pivots tell of a distance, as contracts.
 ghost use Rattle.std.specs.Prelude.{ℕ, List, All};
-ghost use Rattle.spb_defs.specs.Pivots.{vector_of};
+ghost use Rattle.spb_defs.specs.Pivots.{vector_of, cells_of};
 ghost use Rattle.pivot_map.specs.Bounds.{BoundsHold};
-ghost use Rattle.pivot_map.specs.Verdicts.{pair_verdict, Settles};
+ghost use Rattle.pivot_map.specs.Verdicts.{query_verdict, pair_verdict, Settles};
 
 use metric_laws::{Metric, Ruler};
 use spb_edge::Bytes;
 
-/// The bounds that pivots set to the distances of a ruler, as a contract: objects within a radius of each
-/// other meet, objects of which that is sure are within it, and no two are nearer than their lower bound.
-/// They follow from the laws of a distance alone. The call does nothing.
+/// The bounds that pivots set to the distances of a ruler, as a contract: what is within a radius meets, what is
+/// sure is within it, and nothing is nearer than its lower bound. They follow from the laws of a distance alone.
+/// The call does nothing.
 pub fn bounds_hold<R: Ruler>(ruler: &R, pivots: &[Bytes])
     requires pivots { All (R.admitted (R.kind ruler.now)) pivots.now }
     ensures { BoundsHold (R.admitted (R.kind ruler.now)) (R.dist (R.kind ruler.now)) pivots.now }
@@ -21,11 +21,14 @@ pub fn bounds_of_metric<M: Metric>(metric: &M, pivots: &[Bytes])
     ensures { BoundsHold (M.admitted metric.now) (M.dist metric.now) pivots.now }
 {}
 
-/// What the test of a pair tells of the distance, as a contract: two objects that are apart are further
-/// from each other than the radius, and two that are sure are within it. The call does nothing.
+/// What the tests by the pivots tell of a distance, as a contract: two objects, or a query and an object, that are
+/// apart are further from each other than the radius, and two that are sure are within it. The call does nothing.
 pub fn verdicts_hold<R: Ruler>(ruler: &R, pivots: &[Bytes])
     requires pivots { All (R.admitted (R.kind ruler.now)) pivots.now }
-    ensures { (a b : List ℕ) (radius : ℕ) → R.admitted (R.kind ruler.now) a → R.admitted (R.kind ruler.now) b
-        → Settles (pair_verdict (vector_of (R.dist (R.kind ruler.now)) pivots.now a) radius (vector_of (R.dist (R.kind ruler.now)) pivots.now b))
+    ensures query { (q o : List ℕ) (radius : ℕ) → R.admitted (R.kind ruler.now) q → R.admitted (R.kind ruler.now) o
+        → Settles (query_verdict (vector_of (R.dist (R.kind ruler.now)) pivots.now q) radius (cells_of (R.dist (R.kind ruler.now)) pivots.now o))
+        (R.dist (R.kind ruler.now) q o) radius }
+    ensures pair { (a b : List ℕ) (radius : ℕ) → R.admitted (R.kind ruler.now) a → R.admitted (R.kind ruler.now) b
+        → Settles (pair_verdict (cells_of (R.dist (R.kind ruler.now)) pivots.now a) radius (cells_of (R.dist (R.kind ruler.now)) pivots.now b))
         (R.dist (R.kind ruler.now) a b) radius }
 {}

@@ -1,4 +1,4 @@
-//! Vectors of distances to pivots, and what they tell of a distance that wasn't measured.
+//! The distances of objects to the pivots, and what they tell of a distance that wasn't computed.
 #![tactic(auto)]
 
 mod bounds;
@@ -15,4 +15,4 @@ pub use curve_laws::{Curve, Vect};
 pub use row::Row;
 pub use steps::Steps;
 pub use vectors::{lower, map_object, meets, sure};
-pub use verdict::{PairTest, pair_test, test_pair};
+pub use verdict::{PairTest, pair_test, test_pair, test_query};

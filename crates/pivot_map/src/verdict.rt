@@ -1,6 +1,6 @@
-//! What two vectors tell of whether their objects are within a radius of each other.
+//! What the pivots tell of whether a distance is within a radius.
 ghost use Rattle.std.specs.Prelude.{◌≡◌, ◌+◌, length};
-ghost use Rattle.pivot_map.specs.Verdicts.{pair_verdict};
+ghost use Rattle.pivot_map.specs.Verdicts.{query_verdict, pair_verdict};
 
 use crate::steps::Steps;
 use crate::vectors::{meets, sure};
@@ -19,22 +19,31 @@ pub enum PairTest {
     Sure,
 }
 
-/// Tests the pair by its vectors, which have one length. It looks at each coordinate once where the two
-/// are apart, and at most twice otherwise, and takes no memory.
-pub fn test_pair(a: &Vect, b: &Vect, r: u32) -> PairTest
-    requires { length a.now ≡ length b.now }
-    ensures { result ≡ pair_verdict a.now r b.now }
+/// Tests a query, by its distances to the pivots, and an object, by its cells; the two have one length. It looks
+/// at each coordinate once where they are apart, and at most twice otherwise, and takes no memory.
+pub fn test_query(q: &Vect, o: &Vect, r: u32) -> PairTest
+    requires { length q.now ≡ length o.now }
+    ensures { result ≡ query_verdict q.now r o.now }
 {
-    if !meets(a, b, r) {
+    if !meets(q, o, r) {
         return PairTest::Apart;
     }
-    if sure(a, b, r) {
+    if sure(q, o, r) {
         return PairTest::Sure;
     }
     PairTest::Open
 }
 
-/// The same test, counted as one step.
+/// Tests two objects by their cells, which have one length. A cell is one distance, so the test is that of a
+/// query and an object.
+pub fn test_pair(a: &Vect, b: &Vect, r: u32) -> PairTest
+    requires { length a.now ≡ length b.now }
+    ensures { result ≡ pair_verdict a.now r b.now }
+{
+    test_query(a, b, r)
+}
+
+/// The same test of two objects, counted as one step.
 pub fn pair_test<L: Ledger>(a: &Vect, b: &Vect, r: u32, steps: &mut Steps<L>) -> PairTest
     requires { length a.now ≡ length b.now }
     ensures verdict { result ≡ pair_verdict a.now r b.now }
