@@ -1,5 +1,5 @@
 pub mod Finding
-pub mod Permuting
+pub mod Members
 pub mod Places
 pub mod TableLaws
 pub mod Tables

@@ -1,5 +1,5 @@
 -- Rows by their ids, where no two have one id.
-use Rattle.std.proofs.Common.{◌≡◌, ◌≢◌, ℕ, ◌+◌, ◌<◌, Bool, true, false, not, cond, Option, Some, None, List, [], ◌∷◌, ◌++◌, length, get_or, All, Contains, IsPermutation, swap, ⊎_elim, refl, sym, ap, ◌∙◌, zero, suc, arith, if◌then◌else◌, ◌==◌}
+use Rattle.std.proofs.Common.{◌≡◌, ◌≢◌, ℕ, ◌+◌, ◌<◌, ◌≤◌, Bool, true, false, not, cond, Option, Some, None, List, [], ◌∷◌, ◌++◌, length, get_or, All, Contains, IsPermutation, swap, ⊎_elim, refl, sym, ap, ◌∙◌, zero, suc, arith, if◌then◌else◌, ◌==◌}
 use Rattle.std.specs.Option.{option_or}
 use Rattle.std.proofs.lemmas.Bool.Decides.{nat_tests}
 use Rattle.std.proofs.lemmas.List.{get_or_default}
@@ -12,7 +12,7 @@ use Rattle.std.proofs.lemmas.Bool.{cases_eq, cases_order}
 use Rattle.pivot_map.specs.declared.row.Row.{Row}
 use Rattle.row_table.specs.Tables.{has_id, row_with, without, HasDistinctIds}
 use Rattle.row_table.specs.Finding.{find-at, find-none}
-use Rattle.row_table.specs.Permuting.{IsPermutation-filter}
+use Rattle.answer_lists.specs.Permutations.{permutation-filter}
 
 pub not_equal : (m n : ℕ) → m ≢ n → (m == n) ≡ false
 not_equal m n h = grind (arith, nat_tests)
@@ -133,7 +133,7 @@ without-cons row rows id b is = ap (λ b. cond (not b) (row ∷ without id rows)
     turned false = refl
 
 pub without-permutation : (rows others : List Row) (id : ℕ) → IsPermutation rows others → IsPermutation (without id rows) (without id others)
-without-permutation rows others id same = IsPermutation-filter (λ row. not (has_id id row)) rows others same
+without-permutation rows others id same = permutation-filter (λ row. not (has_id id row)) rows others same
 
 pub HasDistinctIds-without : (rows : List Row) (id : ℕ) → HasDistinctIds rows → HasDistinctIds (without id rows)
 HasDistinctIds-without rows id distinct = AllPairs-filter (λ (a b : Row). a.id ≢ b.id) (λ row. not (has_id id row)) rows distinct
@@ -172,6 +172,15 @@ row_with-without (r ∷ rs) id other = from (has_id id r) (has_id other r) (row_
     from false false rest here there =
         ap (row_with other) (without-cons r rs id false here) ∙ row_with-cons r (without id rs) other false there ∙ rest
         ∙ ap (λ found. if other == id then None else found) (sym (row_with-cons r rs other false there))
+
+-- they are no more than all
+pub without-length : (rows : List Row) (id : ℕ) → length (without id rows) ≤ length rows
+without-length [] id = omega arith
+without-length (row ∷ rows) id = from (not (has_id id row)) (without-length rows id)
+  where
+    from : (b : Bool) → length (without id rows) ≤ length rows → length (cond b (row ∷ without id rows) (without id rows)) ≤ suc (length rows)
+    from true h = omega (arith, h)
+    from false h = omega (arith, h)
 
 -- where a row has the id, they are one fewer
 pub length-without : (rows : List Row) → HasDistinctIds rows → (id : ℕ) (row : Row) → row_with id rows ≡ Some row → length (without id rows) + 1 ≡ length rows

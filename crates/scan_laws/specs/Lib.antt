@@ -1,5 +1,3 @@
-pub mod Agree
-pub mod Answers
 pub mod Arranged
 pub mod Entries
 pub mod Members

@@ -1,3 +1,3 @@
-//! Laws of the definitions: answers don't depend on the order of the rows nor on which of two distances that
-//! agree is asked, and members are kept as a table of rows for each collection.
+//! Laws of the definitions: an answer is the same for rows in any order, and a table of rows for each collection holds the
+//! members of a state.
 #![tactic(auto)]
