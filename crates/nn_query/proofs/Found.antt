@@ -27,7 +27,6 @@ module _ (dist : List ℕ → List ℕ → ℕ) (query : List ℕ) where
   ranks-permuted rows others moved = arranged-permuted (ranks_of dist rows query) (ranks_of dist others query) (IsPermutation-map rank_of rows others moved)
 
   pub nearest-found : (entries : List Row) (cs : List Candidate) (k n : ℕ) (least : List Pair) → IsPermutation entries (entries_at entries cs) → Visited dist entries query cs k n least → least ≡ scan_near dist entries query k
-  unfolding scan_near
   nearest-found entries cs k n least moved visited = visited.first ∙ ap (take k) (ranks-permuted entries (entries_at entries cs) moved)
 
   not_behind-is : (pivots : List (List ℕ)) (last : Option Pair) (row : Row) → is_not_behind dist pivots query last row ≡ not (past last (bound_of dist pivots query row))
@@ -91,7 +90,6 @@ module _ (dist : List ℕ → List ℕ → ℕ) (pivots : List (List ℕ)) (quer
       ∙ append-nil (entries_at entries (take n cs))
 
   pub evals-found : length pivots + n ≡ near_evals dist pivots entries query k
-  unfolding near_evals
   evals-found =
       let a : count_by in_reach (entries_at entries cs) ≡ count_by in_reach entries = sum_by-IsPermutation _ _ _ moved in
       let b : length (filter in_reach (entries_at entries cs)) ≡ count_by in_reach (entries_at entries cs) = length-filter in_reach (entries_at entries cs) in

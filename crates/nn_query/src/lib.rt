@@ -7,4 +7,5 @@ mod queue;
 #[cfg(test)]
 mod tests;
 
-pub use near::{NearAnswer, near_rows};
+pub use near::near_rows;
+pub use spb_defs::NearAnswer;

@@ -1,6 +1,6 @@
 ghost use Rattle.std.specs.Prelude.{◌≡◌, [], ℕ, ◌+◌, ◌^◌, ◌<◌, ◌≤◌, length, take, All, IfOk, OnOk};
 ghost use Rattle.metric_laws.specs.Log.{Grew, each_with};
-ghost use Rattle.spb_defs.specs.Scans.{scan_near, near_evals, near_visits};
+ghost use Rattle.spb_defs.specs.Scans.{near_answer, near_visits};
 ghost use Rattle.pivot_map.specs.Rows.{ArePivots, AreRows, entries_of};
 ghost use Rattle.nn_query.specs.Least.{least_of};
 ghost use Rattle.nn_query.specs.Queue.{IsQueue, Visited, objects_at};
@@ -9,18 +9,10 @@ ghost use Rattle.nn_query.specs.Queued.{queued};
 use crate::best::Best;
 use crate::queue::Queue;
 use metric_laws::Ruler;
-use pivot_map::{Ranks, Row, map_object};
+use pivot_map::{Row, map_object};
+use spb_defs::NearAnswer;
 use spb_edge::{Bytes, Memory};
 use std::alloc::Global;
-
-/// The objects that are nearest to a query, and what the answer took.
-#[derive(Debug, Drop)]
-pub struct NearAnswer {
-    /// Each as its distance and id, by distance and then by id.
-    pub rows: Ranks,
-    /// How many distances were evaluated, those to the pivots among them.
-    pub evals: u64,
-}
 
 /// The `k` rows that are nearest to the query, or all where they are fewer, exactly as a scan of all rows
 /// would find them: by distance, and of equal distances the lesser id first.
@@ -43,8 +35,7 @@ pub fn near_rows<R: Ruler>(
     requires pivots { ArePivots (R.admitted (R.kind ruler.old)) pivots.now }
     requires rows { AreRows (R.admitted (R.kind ruler.old)) (R.dist (R.kind ruler.old)) pivots.now rows.now }
     requires room { R.count ruler.old < 2 ^ 63 }
-    ensures rows { IfOk result (λ answer. answer.rows ≡ scan_near (R.dist (R.kind ruler.old)) (entries_of rows.now) q.now k) }
-    ensures evals { IfOk result (λ answer. answer.evals ≡ near_evals (R.dist (R.kind ruler.old)) pivots.now (entries_of rows.now) q.now k) }
+    ensures answer { IfOk result (λ answer. answer ≡ near_answer (R.dist (R.kind ruler.old)) pivots.now (entries_of rows.now) q.now k) }
     ensures count { IfOk result (λ answer. R.count ruler.new ≡ R.count ruler.old + answer.evals) }
     ensures log { OnOk result (Grew (R.log ruler.old) (R.log ruler.new)
         (each_with q.now (near_visits (R.dist (R.kind ruler.old)) pivots.now (entries_of rows.now) q.now k))) }

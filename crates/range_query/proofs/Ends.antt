@@ -1,5 +1,5 @@
 -- What a whole pass has found is what a scan of all rows, or pairs, finds.
-use Rattle.std.proofs.Common.{◌≡◌, ℕ, ◌+◌, Bool, true, false, List, [], ◌∷◌, ◌++◌, length, Option, refl, sym, ap, ◌∙◌, arith}
+use Rattle.std.proofs.Common.{◌≡◌, ℕ, ◌+◌, Bool, true, false, List, [], ◌∷◌, ◌++◌, length, Option, refl, sym, ap, ap₂, ◌∙◌, arith}
 use Rattle.std.specs.Prelude.{◌&&◌, nat_lt, nat_le, if◌then◌else◌, filter, map, count_by, All}
 use Rattle.std.proofs.lemmas.List.{map-append}
 use Rattle.std.proofs.lemmas.Simd.{map-map}
@@ -8,9 +8,9 @@ use Rattle.std.proofs.lemmas.List.Sums.{sum_by-cons}
 use Rattle.metric_laws.specs.Log.{Measured, Grew, each_with}
 use Rattle.metric_laws.specs.LogLaws.{Grew-then, Grew-same}
 use Rattle.answer_lists.specs.Order.{arranged}
-use Rattle.spb_defs.specs.Pivots.{vector_of, meets, is_sure}
+use Rattle.spb_defs.specs.Pivots.{vector_of, cells_of}
 use Rattle.spb_defs.specs.Scans as scans
-use Rattle.spb_defs.specs.Scans.{is_open, scan_range, range_evals, range_sure, range_visits, product, considered, scan_join, join_evals, join_sure, join_visits, is_open_pair}
+use Rattle.spb_defs.specs.Scans.{is_open, is_settled, scan_range, range_evals, range_sure, range_answer, range_visits}
 use Rattle.pivot_map.specs.Bounds.{BoundsHold}
 use Rattle.pivot_map.specs.Rows.{AreRows, entry_of, entries_of}
 use Rattle.pivot_map.specs.declared.row.Row.{Row}
@@ -51,7 +51,7 @@ count_same h test test' (x ∷ xs) same =
 -- a row by itself
 pub record IsRow (admitted : List ℕ → Type 0) (dist : List ℕ → List ℕ → ℕ) (pivots : List (List ℕ)) (row : Row) : Type 0 where
   pub object : admitted row.object
-  pub vector : row.vect ≡ vector_of dist pivots row.object
+  pub vector : row.vect ≡ cells_of dist pivots row.object
 
 pub each_row : (admitted : List ℕ → Type 0) (dist : List ℕ → List ℕ → ℕ) (pivots : List (List ℕ)) (rows : List Row) → AreRows admitted dist pivots rows → All (IsRow admitted dist pivots) rows
 each_row admitted dist pivots rows are = λ k d below. record { object = are.objects k d below; vector = are.vects k d below }
@@ -68,28 +68,33 @@ module _ (admitted : List ℕ → Type 0) (dist : List ℕ → List ℕ → ℕ)
   rows_measured = All-weaker (IsRow admitted dist pivots) (λ row. was_measured (verdict row) ≡ is_open dist pivots query radius (entry_of row))
       (λ row r. verdict_measured admitted dist pivots bounds query row.object asked row.vect radius admits r.object is r.vector) rows (each_row admitted dist pivots rows are)
 
-  rows_sure : All (λ row. was_sure (verdict row) ≡ (meets (vector_of dist pivots query) radius (vector_of dist pivots (entry_of row).1) && is_sure (vector_of dist pivots query) radius (vector_of dist pivots (entry_of row).1))) rows
-  rows_sure = All-weaker (IsRow admitted dist pivots) (λ row. was_sure (verdict row) ≡ (meets (vector_of dist pivots query) radius (vector_of dist pivots (entry_of row).1) && is_sure (vector_of dist pivots query) radius (vector_of dist pivots (entry_of row).1)))
+  rows_sure : All (λ row. was_sure (verdict row) ≡ is_settled dist pivots query radius (entry_of row)) rows
+  rows_sure = All-weaker (IsRow admitted dist pivots) (λ row. was_sure (verdict row) ≡ is_settled dist pivots query radius (entry_of row))
       (λ row r. verdict_sure admitted dist pivots bounds query row.object asked row.vect radius admits r.object is r.vector) rows (each_row admitted dist pivots rows are)
 
-  pub range-ids : (start found : Found ℕ) → start.kept.items ≡ [] → Finds verdict (λ (row : Row). row.id) rows start found → arranged nat_lt found.kept.items ≡ scan_range dist (entries_of rows) query radius
-  unfolding scan_range
+  range-ids : (start found : Found ℕ) → start.kept.items ≡ [] → Finds verdict (λ (row : Row). row.id) rows start found → arranged nat_lt found.kept.items ≡ scan_range dist (entries_of rows) query radius
   range-ids start found none finds =
       ap (arranged nat_lt)
       (finds.kept ∙ ap (λ kept. kept ++ map (λ (row : Row). row.id) (filter (λ row. is_within (verdict row)) rows)) none
       ∙ kept_same entry_of (λ row. is_within (verdict row)) (λ row. nat_le (dist query row.1) radius) (λ (row : Row). row.id) (λ row. row.0) (λ row. refl) rows rows_within)
 
-  pub range-evals : (start found : Found ℕ) → start.evals ≡ 0 → Finds verdict (λ (row : Row). row.id) rows start found → length pivots + found.evals ≡ range_evals dist pivots (entries_of rows) query radius
-  unfolding range_evals
+  range-evals : (start found : Found ℕ) → start.evals ≡ 0 → Finds verdict (λ (row : Row). row.id) rows start found → length pivots + found.evals ≡ range_evals dist pivots (entries_of rows) query radius
   range-evals start found none finds =
       let a = finds.evals in
       let b = count_same entry_of (λ row. was_measured (verdict row)) (is_open dist pivots query radius) rows rows_measured in omega (arith, none, a, b)
 
-  pub range-sure : (start found : Found ℕ) → start.sure ≡ 0 → Finds verdict (λ (row : Row). row.id) rows start found → found.sure ≡ range_sure dist pivots (entries_of rows) query radius
-  unfolding range_sure
+  range-sure : (start found : Found ℕ) → start.sure ≡ 0 → Finds verdict (λ (row : Row). row.id) rows start found → found.sure ≡ range_sure dist pivots (entries_of rows) query radius
   range-sure start found none finds =
       let a = finds.sure in
-      let b = count_same entry_of (λ row. was_sure (verdict row)) (λ row. meets (vector_of dist pivots query) radius (vector_of dist pivots row.1) && is_sure (vector_of dist pivots query) radius (vector_of dist pivots row.1)) rows rows_sure in omega (arith, none, a, b)
+      let b = count_same entry_of (λ row. was_sure (verdict row)) (is_settled dist pivots query radius) rows rows_sure in omega (arith, none, a, b)
+
+  pub range-answer : (start found : Found ℕ) → start.kept.items ≡ [] → start.evals ≡ 0 → start.sure ≡ 0 → Finds verdict (λ (row : Row). row.id) rows start found
+      → (ids : List ℕ) (evals : ℕ) → ids ≡ arranged nat_lt found.kept.items → evals ≡ length pivots + found.evals
+      → record { ids = ids; evals = evals; sure = found.sure } ≡ range_answer dist pivots (entries_of rows) query radius
+  unfolding range_answer
+  range-answer start found none no_evals no_sure finds ids evals of_ids of_evals =
+      ap (λ ids. record { ids = ids; evals = evals; sure = found.sure }) (of_ids ∙ range-ids start found none finds)
+      ∙ ap₂ (λ evals sure. record { ids = scan_range dist (entries_of rows) query radius; evals = evals; sure = sure }) (of_evals ∙ range-evals start found no_evals finds) (range-sure start found no_sure finds)
 
   pub range-log : (first : Option (List Measured)) (count : ℕ) (log : Option (List Measured)) (count' : ℕ) (log' : Option (List Measured)) → Grew first log (each_with query pivots) → Measures verdict (λ (row : Row). (query, row.object)) rows count log count' log'
       → Grew first log' (each_with query (range_visits dist pivots (entries_of rows) query radius))

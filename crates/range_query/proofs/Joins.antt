@@ -1,5 +1,5 @@
 -- What a whole pass over pairs has found is what a scan of all pairs finds.
-use Rattle.std.proofs.Common.{◌≡◌, ◌≢◌, ℕ, Bool, true, false, List, [], ◌∷◌, ◌++◌, length, suc, get_or, ◌<◌, Option, refl, sym, ap, subst, ◌∙◌, arith}
+use Rattle.std.proofs.Common.{◌≡◌, ◌≢◌, ℕ, Bool, true, false, List, [], ◌∷◌, ◌++◌, length, suc, get_or, ◌<◌, Option, refl, sym, ap, ap₂, subst, ◌∙◌, arith}
 use Rattle.std.specs.Prelude.{◌&&◌, nat_lt, nat_le, if◌then◌else◌, filter, map, drop, All, AllPairs}
 use Rattle.std.specs.List.Sorted.{IsPermutation}
 use Rattle.std.proofs.lemmas.List.{length-map, map-append}
@@ -9,9 +9,9 @@ use Rattle.metric_laws.specs.Log.{Measured, GrewInAnyOrder}
 use Rattle.metric_laws.specs.LogLaws.{Grew-same}
 use Rattle.answer_lists.specs.Order.{goes_before, arranged}
 use Rattle.answer_lists.specs.Permutations.{permutation-filter}
-use Rattle.scan_laws.specs.RowOrder.{scan_join-moved, join_evals-moved, join_sure-moved}
-use Rattle.spb_defs.specs.Pivots.{vector_of, meets, is_sure}
-use Rattle.spb_defs.specs.Scans.{considered, scan_join, join_evals, join_sure, join_visits, is_open_pair}
+use Rattle.scan_laws.specs.RowOrder.{join_answer-moved}
+use Rattle.spb_defs.specs.Pivots.{cells_of}
+use Rattle.spb_defs.specs.Scans.{considered, scan_join, join_evals, join_sure, join_answer, join_visits, is_open_pair, is_settled_pair}
 use Rattle.pivot_map.specs.Bounds.{BoundsHold}
 use Rattle.pivot_map.specs.Rows.{AreRows, entry_of, entries_of}
 use Rattle.pivot_map.specs.declared.row.Row.{Row}
@@ -91,7 +91,7 @@ module _ (admitted : List ℕ → Type 0) (dist : List ℕ → List ℕ → ℕ)
       (with_others P holds same row (if same then rows else right) head (all_if same rows right tail second))
       (all_passed P holds same rows right tail second)
 
-  length_same : (vector other : List ℕ) (a b : List ℕ) → vector ≡ vector_of dist pivots a → other ≡ vector_of dist pivots b → length vector ≡ length other
+  length_same : (vector other : List ℕ) (a b : List ℕ) → vector ≡ cells_of dist pivots a → other ≡ cells_of dist pivots b → length vector ≡ length other
   length_same vector other a b is are =
       let e = ap length is in
       let f = ap length are in
@@ -139,32 +139,40 @@ module _ (admitted : List ℕ → Type 0) (dist : List ℕ → List ℕ → ℕ)
   pairs_measured = each_pair (λ p. was_measured (verdict p) ≡ is_open_pair dist pivots radius (entries_of_pair p))
       (λ a b ra rb. verdict_measured admitted dist pivots bounds a.object b.object a.vect b.vect radius ra.object rb.object ra.vector rb.vector)
 
-  pairs_sure : All (λ p. was_sure (verdict p) ≡ (meets (vector_of dist pivots (entries_of_pair p).0.1) radius (vector_of dist pivots (entries_of_pair p).1.1) && is_sure (vector_of dist pivots (entries_of_pair p).0.1) radius (vector_of dist pivots (entries_of_pair p).1.1))) pairs
-  pairs_sure = each_pair (λ p. was_sure (verdict p) ≡ (meets (vector_of dist pivots (entries_of_pair p).0.1) radius (vector_of dist pivots (entries_of_pair p).1.1) && is_sure (vector_of dist pivots (entries_of_pair p).0.1) radius (vector_of dist pivots (entries_of_pair p).1.1)))
+  pairs_sure : All (λ p. was_sure (verdict p) ≡ is_settled_pair dist pivots radius (entries_of_pair p)) pairs
+  pairs_sure = each_pair (λ p. was_sure (verdict p) ≡ is_settled_pair dist pivots radius (entries_of_pair p))
       (λ a b ra rb. verdict_sure admitted dist pivots bounds a.object b.object a.vect b.vect radius ra.object rb.object ra.vector rb.vector)
 
-  pub join-pairs : (start found : Found (ℕ × ℕ)) → start.kept.items ≡ [] → Finds verdict ids_of pairs start found → arranged goes_before found.kept.items ≡ scan_join dist looked_at radius
-  unfolding scan_join
+  abbrev entries : List (Entry × Entry)
+  entries = map entries_of_pair pairs
+
+  join-pairs : (start found : Found (ℕ × ℕ)) → start.kept.items ≡ [] → Finds verdict ids_of pairs start found → arranged goes_before found.kept.items ≡ scan_join dist entries radius
   join-pairs start found none finds =
       ap (arranged goes_before)
       (finds.kept ∙ ap (λ kept. kept ++ map ids_of (filter (λ p. is_within (verdict p)) pairs)) none
       ∙ kept_same {K = ℕ × ℕ} entries_of_pair (λ p. is_within (verdict p)) (λ p. nat_le (dist p.0.1 p.1.1) radius) ids_of (λ p. (p.0.0, p.1.0)) (λ p. refl) pairs pairs_within)
-      ∙ sym (scan_join-moved dist looked_at (map entries_of_pair pairs) moved radius)
 
-  pub join-evals : (start found : Found (ℕ × ℕ)) → start.evals ≡ 0 → Finds verdict ids_of pairs start found → found.evals ≡ join_evals dist pivots looked_at radius
-  unfolding join_evals
+  join-evals : (start found : Found (ℕ × ℕ)) → start.evals ≡ 0 → Finds verdict ids_of pairs start found → found.evals ≡ join_evals dist pivots entries radius
   join-evals start found none finds =
       let a = finds.evals in
-      let b = count_same entries_of_pair (λ p. was_measured (verdict p)) (is_open_pair dist pivots radius) pairs pairs_measured in
-      let c = join_evals-moved dist looked_at (map entries_of_pair pairs) moved radius pivots in omega (arith, none, a, b, c)
+      let b = count_same entries_of_pair (λ p. was_measured (verdict p)) (is_open_pair dist pivots radius) pairs pairs_measured in omega (arith, none, a, b)
 
-  pub join-sure : (start found : Found (ℕ × ℕ)) → start.sure ≡ 0 → Finds verdict ids_of pairs start found → found.sure ≡ join_sure dist pivots looked_at radius
-  unfolding join_sure
+  join-sure : (start found : Found (ℕ × ℕ)) → start.sure ≡ 0 → Finds verdict ids_of pairs start found → found.sure ≡ join_sure dist pivots entries radius
   join-sure start found none finds =
-      let test : Entry × Entry → Bool = λ p. meets (vector_of dist pivots p.0.1) radius (vector_of dist pivots p.1.1) && is_sure (vector_of dist pivots p.0.1) radius (vector_of dist pivots p.1.1) in
       let a = finds.sure in
-      let b = count_same entries_of_pair (λ p. was_sure (verdict p)) test pairs pairs_sure in
-      let c = join_sure-moved dist looked_at (map entries_of_pair pairs) moved radius pivots in omega (arith, none, a, b, c)
+      let b = count_same entries_of_pair (λ p. was_sure (verdict p)) (is_settled_pair dist pivots radius) pairs pairs_sure in omega (arith, none, a, b)
+
+  of-parts : (ids : List (ℕ × ℕ)) (evals sure : ℕ) → ids ≡ scan_join dist entries radius → evals ≡ join_evals dist pivots entries radius → sure ≡ join_sure dist pivots entries radius
+      → record { pairs = ids; evals = evals; sure = sure } ≡ join_answer dist pivots entries radius
+  unfolding join_answer
+  of-parts ids evals sure a b c =
+      ap (λ ids. record { pairs = ids; evals = evals; sure = sure }) a ∙ ap₂ (λ evals sure. record { pairs = scan_join dist entries radius; evals = evals; sure = sure }) b c
+
+  pub join-answer : (start found : Found (ℕ × ℕ)) → start.kept.items ≡ [] → start.evals ≡ 0 → start.sure ≡ 0 → Finds verdict ids_of pairs start found
+      → (ids : List (ℕ × ℕ)) → ids ≡ arranged goes_before found.kept.items → record { pairs = ids; evals = found.evals; sure = found.sure } ≡ join_answer dist pivots looked_at radius
+  join-answer start found none no_evals no_sure finds ids is =
+      of-parts ids found.evals found.sure (is ∙ join-pairs start found none finds) (join-evals start found no_evals finds) (join-sure start found no_sure finds)
+      ∙ sym (join_answer-moved dist pivots looked_at entries moved radius)
 
   pub join-log : (count : ℕ) (log : Option (List Measured)) (count' : ℕ) (log' : Option (List Measured)) → Measures verdict objects_of pairs count log count' log'
       → GrewInAnyOrder log log' (join_visits dist pivots looked_at radius)

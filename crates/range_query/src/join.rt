@@ -1,7 +1,7 @@
 //! Joins of rows.
 ghost use Rattle.std.specs.Prelude.{length, ◌≤◌, ◌≡◌, ℕ, ◌+◌, ◌^◌, ◌<◌, true, IfOk, OnOk};
 ghost use Rattle.metric_laws.specs.Log.{GrewInAnyOrder};
-ghost use Rattle.spb_defs.specs.Scans.{considered, scan_join, join_evals, join_sure, join_visits};
+ghost use Rattle.spb_defs.specs.Scans.{considered, join_answer, join_visits};
 ghost use Rattle.range_query.specs.Findings.{Finds, Measures};
 ghost use Rattle.range_query.specs.Passes.{AreAlike, verdict_of_pair, ids_of, objects_of, pair_of, pairs_of, partners_of};
 ghost use Rattle.pivot_map.specs.Rows.{ArePivots, AreRows, entries_of};
@@ -11,19 +11,9 @@ use crate::verdict::judge;
 use answer_lists::arrange;
 use metric_laws::Ruler;
 use pivot_map::{Pairs, Row};
+use spb_defs::JoinAnswer;
 use spb_edge::{Bytes, Memory};
 use std::alloc::Global;
-
-/// The pairs of objects within a radius of each other, and what the answer took.
-#[derive(Debug, Drop)]
-pub struct JoinAnswer {
-    /// The pairs of ids, in order.
-    pub pairs: Pairs,
-    /// How many distances were evaluated.
-    pub evals: u64,
-    /// How many pairs are within by the pivots alone.
-    pub sure: u64,
-}
 
 /// The pairs of a row on the left and one on the right whose objects are within the radius `r` of each
 /// other, exactly as a scan of all pairs would find them. Where `same` is true both sides are one list, and
@@ -46,9 +36,7 @@ pub fn join_rows<R: Ruler>(
     requires right { AreRows (R.admitted (R.kind ruler.old)) (R.dist (R.kind ruler.old)) pivots.now right.now }
     requires same { same ≡ true → left.now ≡ right.now }
     requires room { R.count ruler.old < 2 ^ 63 }
-    ensures pairs { IfOk result (λ answer. answer.pairs ≡ scan_join (R.dist (R.kind ruler.old)) (considered same (entries_of left.now) (entries_of right.now)) r) }
-    ensures evals { IfOk result (λ answer. answer.evals ≡ join_evals (R.dist (R.kind ruler.old)) pivots.now (considered same (entries_of left.now) (entries_of right.now)) r) }
-    ensures sure { IfOk result (λ answer. answer.sure ≡ join_sure (R.dist (R.kind ruler.old)) pivots.now (considered same (entries_of left.now) (entries_of right.now)) r) }
+    ensures answer { IfOk result (λ answer. answer ≡ join_answer (R.dist (R.kind ruler.old)) pivots.now (considered same (entries_of left.now) (entries_of right.now)) r) }
     ensures count { IfOk result (λ answer. R.count ruler.new ≡ R.count ruler.old + answer.evals) }
     ensures log { OnOk result (GrewInAnyOrder (R.log ruler.old) (R.log ruler.new)
         (join_visits (R.dist (R.kind ruler.old)) pivots.now (considered same (entries_of left.now) (entries_of right.now)) r)) }

@@ -8,5 +8,6 @@ mod range;
 mod tests;
 mod verdict;
 
-pub use join::{JoinAnswer, join_rows};
-pub use range::{RangeAnswer, range_rows};
+pub use join::join_rows;
+pub use range::range_rows;
+pub use spb_defs::{JoinAnswer, RangeAnswer};

@@ -1,7 +1,8 @@
-use Rattle.std.proofs.Common.{sym, subst, ◌∙◌, arith}
+use Rattle.std.proofs.Common.{sym, ap₂, subst, ◌∙◌, arith}
 use Rattle.std.specs.Prelude.{IsPermutation}
 use Rattle.metric_laws.specs.LogLaws.{Grew-then, Grew-same}
 use Rattle.spb_defs.specs.Pivots.{vector_of}
+use Rattle.spb_defs.specs.Scans.{near_answer}
 use Rattle.pivot_map.specs.BoundLaws.{bounds_hold}
 use Rattle.pivot_map.specs.Rows.{entries_of}
 use Rattle.nn_query.specs.Least.{least_of}
@@ -34,8 +35,9 @@ overflow_add-result g c =
     let long = length-cs c.map_object-asked.result c.args.rows.now (queued c.in_ok-queue.queue) c.in_ok-queue.ensures.whole in
     omega (arith, long, c.requires.rows.few, c.in_ok-measured.ensures.visited.within)
 
-pub returns-clause-rows : goal.returns-clause-rows
-returns-clause-rows g c =
+pub returns-clause-answer : goal.returns-clause-answer
+unfolding near_answer
+returns-clause-answer g c =
     let kind = g.R.Ruler.kind c.args.ruler.now in
     let dist = g.R.Ruler.dist kind in
     let pivots = c.args.pivots.now in
@@ -50,25 +52,10 @@ returns-clause-rows g c =
     let visited : Visited dist entries query cs k n least =
     subst (λ m. Visited dist entries query cs m n least) c.new-best.ensures.most
     (subst (λ m. Visited (g.R.Ruler.dist m) entries query cs c.new-best.result.most n least) c.map_object-asked.ensures.kind c.in_ok-measured.ensures.visited) in
-    c.into_ranks.ensures ∙ nearest-found dist query entries cs k n least (whole-list (vector_of dist pivots query) rows cs moved) visited
-
-pub returns-clause-evals : goal.returns-clause-evals
-returns-clause-evals g c =
-    let kind = g.R.Ruler.kind c.args.ruler.now in
-    let dist = g.R.Ruler.dist kind in
-    let pivots = c.args.pivots.now in
-    let query = c.args.q.now in
-    let rows = c.args.rows.now in
-    let entries = entries_of rows in
-    let k = c.args.k in
-    let n = c.in_ok-measured.measured in
-    let cs = queued c.in_ok-queue.queue in
-    let least = least_of c.measure_first.new.best in
-    let moved : IsPermutation (listed (vector_of dist pivots query) 0 rows) cs = subst (λ asked. IsPermutation (listed asked 0 rows) cs) c.map_object-asked.ensures.vector c.in_ok-queue.ensures.whole in
-    let visited : Visited dist entries query cs k n least =
-    subst (λ m. Visited dist entries query cs m n least) c.new-best.ensures.most
-    (subst (λ m. Visited (g.R.Ruler.dist m) entries query cs c.new-best.result.most n least) c.map_object-asked.ensures.kind c.in_ok-measured.ensures.visited) in
-    evals-found dist pivots query entries cs k n least c.requires.some (whole-list (vector_of dist pivots query) rows cs moved) (keys-are dist pivots query rows cs moved c.requires.rows.vects) visited
+    let whole = whole-list (vector_of dist pivots query) rows cs moved in
+    ap₂ (λ rows evals. record { rows = rows; evals = evals })
+    (c.into_ranks.ensures ∙ nearest-found dist query entries cs k n least whole visited)
+    (evals-found dist pivots query entries cs k n least c.requires.some whole (keys-are dist pivots query rows cs moved c.requires.rows.vects) visited)
 
 pub returns-clause-log : goal.returns-clause-log
 returns-clause-log g c =

@@ -4,7 +4,7 @@ use Rattle.pivot_map.specs.declared.row.Row.{Row}
 use Rattle.range_query.specs.Findings.{Finds, Measures}
 use Rattle.range_query.specs.Passes.{AreAlike, verdict_of_pair, ids_of, objects_of, pairs_of}
 use Rattle.range_query.proofs.Passing.{Finds-none, Measures-none, Finds-then, Measures-then, Measures-few, evals-few, sure-few, passed-more, passed-room, passed-all}
-use Rattle.range_query.proofs.Joins.{partners-alike, join-pairs, join-evals, join-sure, join-log}
+use Rattle.range_query.proofs.Joins.{partners-alike, join-answer, join-log}
 use Rattle.range_query.proofs.join.join_rows.Goals as goal
 
 pub loop-i-init : goal.loop-i-init
@@ -78,35 +78,16 @@ loop-i-preserved g c =
       },
     )
 
-pub returns-clause-pairs : goal.returns-clause-pairs
-returns-clause-pairs g c =
+pub returns-clause-answer : goal.returns-clause-answer
+returns-clause-answer g c =
     let ruler = g.R.Ruler in
     let kind = ruler.kind c.args.ruler.now in
     let bounds = bounds_hold (ruler.admitted kind) (ruler.dist kind) (g.met.R.Ruler.ruler_laws kind) c.args.pivots.now c.requires.pivots.objects in
     let kept = c.loop-i.invariant.1 in
     let all = passed-all c.args.same c.args.left.now c.args.right.now c.loop-i.i c.loop-i.invariant.0 (omega arith) kept.whole in
     let found = subst (λ (pairs : List (Row × Row)). Finds (verdict_of_pair (ruler.dist kind) c.args.r) ids_of pairs c.new-found.result c.loop-i.found) all kept.found in
-    c.from_vec.ensures ∙ c.arrange.ensures ∙ join-pairs (ruler.admitted kind) (ruler.dist kind) c.args.pivots.now bounds c.args.left.now c.args.right.now c.requires.left c.requires.right c.args.same c.requires.same c.args.r c.new-found.result c.loop-i.found c.new-found.ensures.kept found
-
-pub returns-clause-evals : goal.returns-clause-evals
-returns-clause-evals g c =
-    let ruler = g.R.Ruler in
-    let kind = ruler.kind c.args.ruler.now in
-    let bounds = bounds_hold (ruler.admitted kind) (ruler.dist kind) (g.met.R.Ruler.ruler_laws kind) c.args.pivots.now c.requires.pivots.objects in
-    let kept = c.loop-i.invariant.1 in
-    let all = passed-all c.args.same c.args.left.now c.args.right.now c.loop-i.i c.loop-i.invariant.0 (omega arith) kept.whole in
-    let found = subst (λ (pairs : List (Row × Row)). Finds (verdict_of_pair (ruler.dist kind) c.args.r) ids_of pairs c.new-found.result c.loop-i.found) all kept.found in
-    join-evals (ruler.admitted kind) (ruler.dist kind) c.args.pivots.now bounds c.args.left.now c.args.right.now c.requires.left c.requires.right c.args.same c.requires.same c.args.r c.new-found.result c.loop-i.found c.new-found.ensures.evals found
-
-pub returns-clause-sure : goal.returns-clause-sure
-returns-clause-sure g c =
-    let ruler = g.R.Ruler in
-    let kind = ruler.kind c.args.ruler.now in
-    let bounds = bounds_hold (ruler.admitted kind) (ruler.dist kind) (g.met.R.Ruler.ruler_laws kind) c.args.pivots.now c.requires.pivots.objects in
-    let kept = c.loop-i.invariant.1 in
-    let all = passed-all c.args.same c.args.left.now c.args.right.now c.loop-i.i c.loop-i.invariant.0 (omega arith) kept.whole in
-    let found = subst (λ (pairs : List (Row × Row)). Finds (verdict_of_pair (ruler.dist kind) c.args.r) ids_of pairs c.new-found.result c.loop-i.found) all kept.found in
-    join-sure (ruler.admitted kind) (ruler.dist kind) c.args.pivots.now bounds c.args.left.now c.args.right.now c.requires.left c.requires.right c.args.same c.requires.same c.args.r c.new-found.result c.loop-i.found c.new-found.ensures.sure found
+    join-answer (ruler.admitted kind) (ruler.dist kind) c.args.pivots.now bounds c.args.left.now c.args.right.now c.requires.left c.requires.right c.args.same c.requires.same c.args.r
+    c.new-found.result c.loop-i.found c.new-found.ensures.kept c.new-found.ensures.evals c.new-found.ensures.sure found _ (c.from_vec.ensures ∙ c.arrange.ensures)
 
 pub returns-clause-log : goal.returns-clause-log
 returns-clause-log g c =
