@@ -20,7 +20,7 @@ use spb_edge::Bytes;
 /// The longest line, in bytes without its LF.
 pub const LINE_LIMIT: usize = 16_384;
 
-/// The most objects of a store in memory, over all collections.
+/// The most objects of a store, over all collections: the cap of a store in memory.
 pub const MEMORY_CAP: usize = 65_536;
 
 /// The most samples that are kept.
@@ -47,6 +47,27 @@ pub enum CurveKind {
     Z,
     /// The Hilbert curve.
     Hilbert,
+}
+
+/// What the words of the program ask for. The file that they name, if any, is handed to the program as a disk.
+#[derive(Clone, Copy, Debug, PartialEq, Eq)]
+pub enum Asked {
+    /// Answers a script from an empty store in memory.
+    Mem(MemorySetup),
+    /// Makes a store in a file: by this curve, with at most so many pivots (1 to 8) and objects (1 to 65536), of this
+    /// space.
+    Make {
+        curve: CurveKind,
+        pivots: u8,
+        cap: u32,
+        space: Space,
+    },
+    /// Answers a script on a store in a file.
+    Run,
+    /// Checks a store in a file.
+    Check,
+    /// Makes a store in a file and runs a generated script on it, of so many objects (1 to 65536).
+    Trial { seed: u64, count: u32 },
 }
 
 /// A line that is a command. A collection `c` or `d` is 0 to 3.
