@@ -65,6 +65,6 @@ impl Best {
     pub(crate) fn into_ranks(self) -> Ranks
         ensures { result ≡ least_of self }
     {
-        Ranks::from_vec(self.heap.into_sorted_vec())
+        Ranks::from(self.heap.into_sorted_vec())
     }
 }

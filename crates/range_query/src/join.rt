@@ -49,7 +49,7 @@ pub fn join_rows<R: Ruler>(
     }
     arrange(&mut found.kept);
     Ok(JoinAnswer {
-        pairs: Pairs::from_vec(found.kept),
+        pairs: Pairs::from(found.kept),
         evals: found.evals,
         sure: found.sure,
     })

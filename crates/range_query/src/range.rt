@@ -44,7 +44,7 @@ pub fn range_rows<R: Ruler>(
     }
     arrange_ids(&mut found.kept);
     Ok(RangeAnswer {
-        ids: Ids::from_vec(found.kept),
+        ids: Ids::from(found.kept),
         evals: pivots.len() as u64 + found.evals,
         sure: found.sure,
     })

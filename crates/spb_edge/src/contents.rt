@@ -135,7 +135,7 @@ impl Contents {
         for range in &self.unsynced {
             fill(&mut image, range.at, range.len, byte)?;
         }
-        Ok(Bytes::from_vec(image))
+        Ok(Bytes::from(image))
     }
 }
 

@@ -87,7 +87,7 @@ returns-clause-answer g c =
     let all = passed-all c.args.same c.args.left.now c.args.right.now c.loop-i.i c.loop-i.invariant.0 (omega arith) kept.whole in
     let found = subst (λ (pairs : List (Row × Row)). Finds (verdict_of_pair (ruler.dist kind) c.args.r) ids_of pairs c.new-found.result c.loop-i.found) all kept.found in
     join-answer (ruler.admitted kind) (ruler.dist kind) c.args.pivots.now bounds c.args.left.now c.args.right.now c.requires.left c.requires.right c.args.same c.requires.same c.args.r
-    c.new-found.result c.loop-i.found c.new-found.ensures.kept c.new-found.ensures.evals c.new-found.ensures.sure found _ (c.from_vec.ensures ∙ c.arrange.ensures)
+    c.new-found.result c.loop-i.found c.new-found.ensures.kept c.new-found.ensures.evals c.new-found.ensures.sure found _ (c.from.ensures ∙ c.arrange.ensures)
 
 pub returns-clause-log : goal.returns-clause-log
 returns-clause-log g c =

@@ -15,7 +15,7 @@ returns-clause-answer g c =
     let all = take_all c.loop-row.row-index c.args.rows.now (omega arith) in
     let found = subst (λ (seen : List Row). Finds (verdict_of_row (ruler.dist kind) c.map_object-asked.result c.args.q.now c.args.r) (λ (row : Row). row.id) seen c.new-found.result c.loop-row.found) all c.loop-row.invariant.found in
     range-answer (ruler.admitted kind) (ruler.dist kind) c.args.pivots.now bounds c.args.rows.now c.requires.rows c.args.q.now c.map_object-asked.result c.args.r c.requires.query c.map_object-asked.ensures.vector
-    c.new-found.result c.loop-row.found c.new-found.ensures.kept c.new-found.ensures.evals c.new-found.ensures.sure found _ _ (c.from_vec.ensures ∙ c.arrange_ids.ensures) refl
+    c.new-found.result c.loop-row.found c.new-found.ensures.kept c.new-found.ensures.evals c.new-found.ensures.sure found _ _ (c.from.ensures ∙ c.arrange_ids.ensures) refl
 
 pub returns-clause-log : goal.returns-clause-log
 returns-clause-log g c =
