@@ -50,7 +50,7 @@ pub trait Ruler {
 }
 
 /// A ruler that counts. It takes no memory.
-#[derive(Clone, Copy, Debug)]
+#[derive(Debug, Drop)]
 pub struct Counted<M: Metric> {
     metric: M,
     count: u64,
