@@ -18,8 +18,8 @@ use Rattle.spb_defs.specs.declared.What.TheVariants as what
 use Rattle.spb_defs.specs.Numbers.{at_least, number_within}
 use Rattle.spb_defs.specs.ObjectText.{object_of, text_of}
 use Rattle.spb_defs.specs.Grammar.{◌>>=◌, collection_in, id_in, radius_in, ranks_in, object_in, sample_in, add_in, drop_in, get_in, count_in, range_in, near_in, join_in, command_in, command_of}
-use Rattle.object_text.proofs.Texts.{number_within-decimal, decimal-number_within, IsFree, IsFree-decimal, split_joined}
-use Rattle.object_text.proofs.ObjectTexts.{IsFree-text_of, read_text, text_read}
+use Rattle.object_text.specs.Texts.{number_within-decimal, decimal-number_within, IsFree, IsFree-decimal, split_joined}
+use Rattle.object_text.specs.ObjectTexts.{IsFree-text_of, read_text, text_read}
 use Rattle.cmd_grammar.specs.OneLine.{words_of, command_text}
 use Rattle.cmd_grammar.specs.ReadsCommand.{IsProper}
 

@@ -1,11 +1,3 @@
-pub mod Components
-pub mod Cuts
-pub mod Numerals
 pub mod NumbersWritten
-pub mod ObjectTexts
 pub mod SetReading
-pub mod SetTexts
 pub mod StringReading
-pub mod StringTexts
-pub mod Texts
-pub mod VectorTexts

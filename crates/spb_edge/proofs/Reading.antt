@@ -14,7 +14,7 @@ use Rattle.spb_edge.specs.Lines.{is_lf, HasNoLf, line_of, lines_of}
 use Rattle.spb_edge.specs.declared.reader.Scanned.{Scanned}
 use Rattle.spb_edge.specs.declared.reader.Scanned.TheVariants.{Ended, Open}
 use Rattle.spb_edge.specs.Reader.{unread, rest, taken, faults, has_ended, budget, IsOpen, EndsAgain, TakesOff, NothingLeft, IsLineAt, Spells, IsFirstOf, IsNextLine, LowersBudget, Scans, Refills, Closes}
-use Rattle.spb_edge.proofs.LineLaws.{lines_of-nil, lines_of-ended, lines_of-last}
+use Rattle.spb_edge.specs.LineLaws.{lines_of-nil, lines_of-ended, lines_of-last}
 
 -- the bytes of a line that no LF ended yet were taken off
 pub record InLine {S : Type 0} {G : Ghosts S} (limit : ℕ) (old now : LineReader S G) (line : Line) (front : List ℕ) : Type 0 where

@@ -3,6 +3,7 @@ pub mod Fault
 pub mod Source
 pub mod Sink
 pub mod Lines
+pub mod LineLaws
 pub mod MemSource
 pub mod Crash
 pub mod Moments

@@ -14,7 +14,7 @@ use Rattle.spb_edge.specs.declared.source.Source as source
 use Rattle.spb_edge.specs.declared.sink.Sink as sink
 use Rattle.spb_edge.specs.Told.{before_told, before_told-nil, told_then, told_then-append, told_then-nil}
 use Rattle.spb_edge.specs.Lines.{HasNoLf, lines_of, ended_lines}
-use Rattle.spb_edge.proofs.LineLaws.{ended_lines-ended, ended_lines-none}
+use Rattle.spb_edge.specs.LineLaws.{ended_lines-ended, ended_lines-none}
 use Rattle.spb_edge.specs.Reader.{unread, rest, taken, faults, has_ended, IsOpen, EndsAgain, TakesOff, IsLineAt, Spells, IsNextLine, NothingLeft}
 use Rattle.spb_edge.specs.Reader as reads
 use Rattle.spb_defs.specs.declared.TheConstants.{LINE_LIMIT}

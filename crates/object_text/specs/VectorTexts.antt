@@ -6,8 +6,8 @@ use Rattle.std.proofs.lemmas.Option.{cond_some}
 use Rattle.metrics_builtin.specs.Vectors.{components, spelled, IsVector}
 use Rattle.metrics_builtin.specs.VectorLaws.{components-spelled, components-IsVector}
 use Rattle.spb_defs.specs.ObjectText.{numbers_text, numbers_in, vector_with, vector_of_text}
-use Rattle.object_text.proofs.Components.{vector_of_text-valid}
-use Rattle.object_text.proofs.Texts.{AreRead, numbers_in-text, text-numbers_in, IsFree, IsFree-numbers_text}
+use Rattle.object_text.specs.Components.{vector_of_text-valid}
+use Rattle.object_text.specs.Texts.{AreRead, numbers_in-text, text-numbers_in, IsFree, IsFree-numbers_text}
 
 -- what is read of the words
 record IsOf (dim : ℕ) (read : Option (List ℕ)) (object : List ℕ) : Type 0 where

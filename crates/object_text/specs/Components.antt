@@ -14,8 +14,8 @@ use Rattle.metrics_builtin.specs.Vectors.{spelled, IsVector}
 use Rattle.metrics_builtin.specs.VectorLaws.{IsVector-spelled, length-spelled}
 use Rattle.spb_defs.specs.Numbers.{number_of, at_most, number_within}
 use Rattle.spb_defs.specs.ObjectText.{numbers_within, numbers_in, vector_with, vector_of_text}
-use Rattle.object_text.proofs.Numerals.{number_of-some}
-use Rattle.object_text.proofs.Cuts.{split-none, split-some}
+use Rattle.object_text.specs.Numerals.{number_of-some}
+use Rattle.object_text.specs.Cuts.{split-none, split-some}
 
 -- ---- a number of at most a bound
 

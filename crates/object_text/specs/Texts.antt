@@ -13,8 +13,8 @@ use Rattle.std.proofs.lemmas.List.Splits.{slice_split_none, slice_split_at, join
 use Rattle.std.proofs.lemmas.Str.Parse.{numerals_by_value, tells_digits, digit_at}
 use Rattle.spb_defs.specs.Numbers.{number_of, at_most, number_within}
 use Rattle.spb_defs.specs.ObjectText.{numbers_text, numbers_within, numbers_in}
-use Rattle.object_text.proofs.Numerals.{number_of-some, number_of-plain, plain_decimal}
-use Rattle.object_text.proofs.Components.{consed, nil_some, at_most-some, length-numbers_within, All-numbers_within}
+use Rattle.object_text.specs.Numerals.{number_of-some, number_of-plain, plain_decimal}
+use Rattle.object_text.specs.Components.{consed, nil_some, at_most-some, length-numbers_within, All-numbers_within}
 
 -- ---- numbers
 
