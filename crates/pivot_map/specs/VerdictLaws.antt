@@ -1,41 +1,24 @@
 -- Laws of what the pivots tell.
-use Rattle.std.proofs.Common.{◌≡◌, ℕ, ◌<◌, ◌≤◌, Bool, true, false, ◌&&◌, List, refl, sym, ap, subst, ◌∙◌, arith}
-use Rattle.std.specs.Prelude.{not}
+use Rattle.std.proofs.Common.{◌≡◌, ℕ, ◌<◌, ◌≤◌, Bool, true, false, List, refl, sym, ap, ◌∙◌, arith}
 use Rattle.spb_defs.specs.Pivots.{vector_of, cells_of, meets, is_sure, pair_meets, pair_is_sure}
 use Rattle.pivot_map.specs.declared.verdict.PairTest.{PairTest}
 use Rattle.pivot_map.specs.declared.verdict.PairTest.TheVariants.{Apart, Open, Sure}
 use Rattle.pivot_map.specs.Bounds.{BoundsHold}
 use Rattle.pivot_map.specs.BoundLaws.{pair_meets-symmetric, pair_is_sure-symmetric}
-use Rattle.pivot_map.specs.Verdicts.{verdict, query_verdict, pair_verdict, Tells, is_open_test, is_sure_test, Settles}
+use Rattle.pivot_map.specs.Verdicts.{verdict, query_verdict, pair_verdict, Tells, Settles}
 
 tells-of : (met sure : Bool) → Tells (verdict met sure) met sure
 tells-of false sure = refl
 tells-of true false = (refl, refl)
 tells-of true true = (refl, refl)
 
-open-of : (met sure : Bool) → (met && not sure) ≡ is_open_test (verdict met sure)
-open-of false sure = refl
-open-of true false = refl
-open-of true true = refl
+-- the verdict on a query and an object tells the two tests
+pub query-tells : (asked cells : List ℕ) (radius : ℕ) → Tells (query_verdict asked radius cells) (meets asked radius cells) (is_sure asked radius cells)
+query-tells asked cells radius = tells-of (meets asked radius cells) (is_sure asked radius cells)
 
--- what is measured is what is open: of a query and an object, and of two objects
-pub open-by-query_verdict : (asked cells : List ℕ) (radius : ℕ) → (meets asked radius cells && not (is_sure asked radius cells)) ≡ is_open_test (query_verdict asked radius cells)
-open-by-query_verdict asked cells radius = open-of (meets asked radius cells) (is_sure asked radius cells)
-
-pub open-by-pair_verdict : (a b : List ℕ) (radius : ℕ) → (pair_meets a radius b && not (pair_is_sure a radius b)) ≡ is_open_test (pair_verdict a radius b)
-open-by-pair_verdict a b radius = open-of (pair_meets a radius b) (pair_is_sure a radius b)
-
-sure-of : (met sure : Bool) → (met && sure) ≡ is_sure_test (verdict met sure)
-sure-of false sure = refl
-sure-of true false = refl
-sure-of true true = refl
-
--- what counts as sure is what is so by its verdict
-pub sure-by-query_verdict : (asked cells : List ℕ) (radius : ℕ) → (meets asked radius cells && is_sure asked radius cells) ≡ is_sure_test (query_verdict asked radius cells)
-sure-by-query_verdict asked cells radius = sure-of (meets asked radius cells) (is_sure asked radius cells)
-
-pub sure-by-pair_verdict : (a b : List ℕ) (radius : ℕ) → (pair_meets a radius b && pair_is_sure a radius b) ≡ is_sure_test (pair_verdict a radius b)
-sure-by-pair_verdict a b radius = sure-of (pair_meets a radius b) (pair_is_sure a radius b)
+-- and so does that on two objects
+pub pair-tells : (a b : List ℕ) (radius : ℕ) → Tells (pair_verdict a radius b) (pair_meets a radius b) (pair_is_sure a radius b)
+pair-tells a b radius = tells-of (pair_meets a radius b) (pair_is_sure a radius b)
 
 -- the verdict on two objects is the same both ways
 pub pair_verdict-symmetric : (a b : List ℕ) (radius : ℕ) → pair_verdict a radius b ≡ pair_verdict b radius a
@@ -58,7 +41,7 @@ pub query_settles : (admitted : List ℕ → Type 0) (dist : List ℕ → List �
 query_settles admitted dist pivots bounds q o radius f g =
     let asked = vector_of dist pivots q in
     let cells = cells_of dist pivots o in
-    settles-by (dist q o) radius (query_verdict asked radius cells) (meets asked radius cells) (is_sure asked radius cells) (tells-of (meets asked radius cells) (is_sure asked radius cells))
+    settles-by (dist q o) radius (query_verdict asked radius cells) (meets asked radius cells) (is_sure asked radius cells) (query-tells asked cells radius)
     (bounds.within_meets q o radius f g)
     (bounds.sure_within q o radius f g)
 
@@ -68,6 +51,6 @@ pub pair_settles : (admitted : List ℕ → Type 0) (dist : List ℕ → List �
 pair_settles admitted dist pivots bounds a b radius f g =
     let x = cells_of dist pivots a in
     let y = cells_of dist pivots b in
-    settles-by (dist a b) radius (pair_verdict x radius y) (pair_meets x radius y) (pair_is_sure x radius y) (tells-of (pair_meets x radius y) (pair_is_sure x radius y))
+    settles-by (dist a b) radius (pair_verdict x radius y) (pair_meets x radius y) (pair_is_sure x radius y) (pair-tells x y radius)
     (bounds.within_pair_meets a b radius f g)
     (bounds.pair_sure_within a b radius f g)

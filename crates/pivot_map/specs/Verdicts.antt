@@ -30,12 +30,6 @@ is_open_test Apart = false
 is_open_test Open = true
 is_open_test Sure = false
 
--- the two are within the radius by the pivots alone
-abbrev pub is_sure_test : PairTest → Bool
-is_sure_test Apart = false
-is_sure_test Open = false
-is_sure_test Sure = true
-
 -- objects that are apart are further apart than the radius, those that are sure are within it
 abbrev pub Settles : PairTest → ℕ → ℕ → Type 0
 Settles Apart distance radius = radius < distance

@@ -1,76 +1,84 @@
--- What a whole pass has found is what a scan of all rows, or pairs, finds.
-use Rattle.std.proofs.Common.{◌≡◌, ℕ, ◌+◌, Bool, true, false, List, [], ◌∷◌, ◌++◌, length, Option, refl, sym, ap, ap₂, ◌∙◌, arith}
-use Rattle.std.specs.Prelude.{◌&&◌, nat_lt, nat_le, if◌then◌else◌, filter, map, count_by, All}
+-- What a whole pass over rows has found is what a scan of all rows finds.
+use Rattle.std.proofs.Common.{◌≡◌, ℕ, ◌+◌, Bool, false, List, [], ◌++◌, length, get_or, Option, refl, sym, ap, ap₂, subst, ◌∙◌, arith}
+use Rattle.std.specs.Prelude.{nat_lt, nat_le, filter, map, All}
 use Rattle.std.proofs.lemmas.List.{map-append}
 use Rattle.std.proofs.lemmas.Simd.{map-map}
-use Rattle.std.proofs.lemmas.List.Elements.{All-head, All-tail, All-weaker}
-use Rattle.std.proofs.lemmas.List.Sums.{sum_by-cons}
 use Rattle.metric_laws.specs.Log.{Measured, Grew, each_with}
 use Rattle.metric_laws.specs.LogLaws.{Grew-then, Grew-same}
 use Rattle.answer_lists.specs.Order.{arranged}
-use Rattle.spb_defs.specs.Pivots.{vector_of, cells_of}
+use Rattle.spb_defs.specs.Pivots.{vector_of, cells_of, meets, is_sure}
 use Rattle.spb_defs.specs.Scans as scans
 use Rattle.spb_defs.specs.Scans.{is_open, is_settled, scan_range, range_evals, range_sure, range_answer, range_visits}
 use Rattle.pivot_map.specs.Bounds.{BoundsHold}
 use Rattle.pivot_map.specs.Rows.{AreRows, entry_of, entries_of}
+use Rattle.pivot_map.specs.Verdicts.{query_verdict, Tells}
+use Rattle.pivot_map.specs.Verdicts as vectors
+use Rattle.pivot_map.specs.VerdictLaws.{query-tells}
 use Rattle.pivot_map.specs.declared.row.Row.{Row}
-use Rattle.range_query.specs.declared.verdict.Verdict.{Verdict}
-use Rattle.range_query.specs.declared.found.Found.{Found}
-use Rattle.range_query.specs.Verdicts.{is_within, was_measured, was_sure, one_if}
-use Rattle.range_query.specs.Findings.{Finds, Measures}
+use Rattle.query_pass.specs.declared.verdict.Verdict.{Verdict}
+use Rattle.query_pass.specs.declared.verdict.Verdict.TheVariants.{Apart}
+use Rattle.query_pass.specs.declared.found.Found.{Found}
+use Rattle.query_pass.specs.Verdicts.{verdict_of, is_within, was_measured, was_sure}
+use Rattle.query_pass.specs.VerdictLaws.{verdict-within, verdict-measured, verdict-sure}
+use Rattle.query_pass.specs.Findings.{Finds, Measures}
+use Rattle.query_pass.specs.PassLaws.{Finds-kept, Measures-kept, kept_same, count_same}
+use Rattle.query_pass.specs.Pairs.{IsRow}
 use Rattle.range_query.specs.Passes.{verdict_of_row}
-use Rattle.range_query.proofs.Verdicts.{verdict_within, verdict_measured, verdict_sure}
 
-abbrev pub Entry : Type 0
+abbrev Entry : Type 0
 Entry = scans.Row
-
--- ---- the same test of the items of two lists
-
-kept_if : {A B K : Type 0} (h : A → B) (name : A → K) (name' : B → K) (x : A) (xs : List A) (ys : List B) (b : Bool) → name x ≡ name' (h x) → map name xs ≡ map name' ys
-    → map name (if b then x ∷ xs else xs) ≡ map name' (if b then h x ∷ ys else ys)
-kept_if h name name' x xs ys true same others = ap (λ n. n ∷ map name xs) same ∙ ap (λ ns. name' (h x) ∷ ns) others
-kept_if h name name' x xs ys false same others = others
-
-pub kept_same : {A B K : Type 0} (h : A → B) (test : A → Bool) (test' : B → Bool) (name : A → K) (name' : B → K) → ((x : A) → name x ≡ name' (h x)) → (xs : List A) → All (λ x. test x ≡ test' (h x)) xs
-    → map name (filter test xs) ≡ map name' (filter test' (map h xs))
-kept_same h test test' name name' named [] same = refl
-kept_same h test test' name name' named (x ∷ xs) same =
-    kept_if h name name' x (filter test xs) (filter test' (map h xs)) (test x) (named x) (kept_same h test test' name name' named xs (All-tail (λ x. test x ≡ test' (h x)) x xs same))
-    ∙ ap (λ b. map name' (if b then h x ∷ filter test' (map h xs) else filter test' (map h xs))) (All-head (λ x. test x ≡ test' (h x)) x xs same)
-
-pub count_same : {A B : Type 0} (h : A → B) (test : A → Bool) (test' : B → Bool) (xs : List A) → All (λ x. test x ≡ test' (h x)) xs → count_by test xs ≡ count_by test' (map h xs)
-count_same h test test' [] same = refl
-count_same h test test' (x ∷ xs) same =
-    let a = sum_by-cons (λ x. if test x then 1 else 0) x xs in
-    let b = sum_by-cons (λ y. if test' y then 1 else 0) (h x) (map h xs) in
-    let c = count_same h test test' xs (All-tail (λ x. test x ≡ test' (h x)) x xs same) in
-    let d = ap one_if (All-head (λ x. test x ≡ test' (h x)) x xs same) in omega (arith, a, b, c, d)
-
--- ---- ranges
-
--- a row by itself
-pub record IsRow (admitted : List ℕ → Type 0) (dist : List ℕ → List ℕ → ℕ) (pivots : List (List ℕ)) (row : Row) : Type 0 where
-  pub object : admitted row.object
-  pub vector : row.vect ≡ cells_of dist pivots row.object
 
 pub each_row : (admitted : List ℕ → Type 0) (dist : List ℕ → List ℕ → ℕ) (pivots : List (List ℕ)) (rows : List Row) → AreRows admitted dist pivots rows → All (IsRow admitted dist pivots) rows
 each_row admitted dist pivots rows are = λ k d below. record { object = are.objects k d below; vector = are.vects k d below }
 
-module _ (admitted : List ℕ → Type 0) (dist : List ℕ → List ℕ → ℕ) (pivots : List (List ℕ)) (bounds : BoundsHold admitted dist pivots) (rows : List Row) (are : AreRows admitted dist pivots rows) (query asked : List ℕ) (radius : ℕ) (admits : admitted query) (is : asked ≡ vector_of dist pivots query) where
+-- ---- rows that don't meet the query
+
+module _ (dist : List ℕ → List ℕ → ℕ) (query asked : List ℕ) (radius : ℕ) where
+  abbrev meets_query : Row → Bool
+  meets_query row = meets asked radius row.vect
+
+  abbrev judged : Row → Verdict
+  judged = verdict_of_row dist asked query radius
+
+  unmet : (row : Row) → meets_query row ≡ false → judged row ≡ Apart
+  unmet row out = ap (λ met. verdict_of (vectors.verdict met (is_sure asked radius row.vect)) (nat_le (dist query row.object) radius)) out
+
+  -- a pass over the rows that meet the query is one over all rows
+  pub range-met : {K : Type 0} (name : Row → K) (rows : List Row) (start found : Found K) → Finds judged name (filter meets_query rows) start found → Finds judged name rows start found
+  range-met name rows start found finds = Finds-kept judged name meets_query rows start found (λ k d below. unmet (get_or rows k d)) finds
+
+  pub measured-met : (objects : Row → Measured) (rows : List Row) (count : ℕ) (log : Option (List Measured)) (count' : ℕ) (log' : Option (List Measured)) → Measures judged objects (filter meets_query rows) count log count' log' → Measures judged objects rows count log count' log'
+  measured-met objects rows count log count' log' measures = Measures-kept judged objects meets_query rows count log count' log' (λ k d below. unmet (get_or rows k d)) measures
+
+-- ---- the end of a range
+
+module _ (admitted : List ℕ → Type 0) (dist : List ℕ → List ℕ → ℕ) (pivots : List (List ℕ)) (bounds : BoundsHold admitted dist pivots) (rows : List Row) (are : All (IsRow admitted dist pivots) rows) (query asked : List ℕ) (radius : ℕ) (admits : admitted query) (is : asked ≡ vector_of dist pivots query) where
   abbrev verdict : Row → Verdict
   verdict = verdict_of_row dist asked query radius
 
+  abbrev met : Entry → Bool
+  met row = meets (vector_of dist pivots query) radius (cells_of dist pivots row.1)
+
+  abbrev sure : Entry → Bool
+  sure row = is_sure (vector_of dist pivots query) radius (cells_of dist pivots row.1)
+
+  row-tells : (row : Row) → IsRow admitted dist pivots row → Tells (query_verdict asked radius row.vect) (met (entry_of row)) (sure (entry_of row))
+  row-tells row r =
+      subst (λ a. Tells (query_verdict asked radius row.vect) (meets a radius (cells_of dist pivots row.object)) (is_sure a radius (cells_of dist pivots row.object))) is
+      (subst (λ b. Tells (query_verdict asked radius row.vect) (meets asked radius b) (is_sure asked radius b)) r.vector
+      (query-tells asked row.vect radius))
+
   rows_within : All (λ row. is_within (verdict row) ≡ nat_le (dist query (entry_of row).1) radius) rows
-  rows_within = All-weaker (IsRow admitted dist pivots) (λ row. is_within (verdict row) ≡ nat_le (dist query (entry_of row).1) radius)
-      (λ row r. verdict_within admitted dist pivots bounds query row.object asked row.vect radius admits r.object is r.vector) rows (each_row admitted dist pivots rows are)
+  rows_within = λ k d below.
+      verdict-within _ _ _ (dist query _) radius (row-tells _ (are k d below))
+      (bounds.within_meets query _ radius admits (are k d below).object)
+      (bounds.sure_within query _ radius admits (are k d below).object)
 
   rows_measured : All (λ row. was_measured (verdict row) ≡ is_open dist pivots query radius (entry_of row)) rows
-  rows_measured = All-weaker (IsRow admitted dist pivots) (λ row. was_measured (verdict row) ≡ is_open dist pivots query radius (entry_of row))
-      (λ row r. verdict_measured admitted dist pivots bounds query row.object asked row.vect radius admits r.object is r.vector) rows (each_row admitted dist pivots rows are)
+  rows_measured = λ k d below. verdict-measured _ _ _ _ (row-tells _ (are k d below))
 
   rows_sure : All (λ row. was_sure (verdict row) ≡ is_settled dist pivots query radius (entry_of row)) rows
-  rows_sure = All-weaker (IsRow admitted dist pivots) (λ row. was_sure (verdict row) ≡ is_settled dist pivots query radius (entry_of row))
-      (λ row r. verdict_sure admitted dist pivots bounds query row.object asked row.vect radius admits r.object is r.vector) rows (each_row admitted dist pivots rows are)
+  rows_sure = λ k d below. verdict-sure _ _ _ _ (row-tells _ (are k d below))
 
   range-ids : (start found : Found ℕ) → start.kept.items ≡ [] → Finds verdict (λ (row : Row). row.id) rows start found → arranged nat_lt found.kept.items ≡ scan_range dist (entries_of rows) query radius
   range-ids start found none finds =
@@ -88,6 +96,7 @@ module _ (admitted : List ℕ → Type 0) (dist : List ℕ → List ℕ → ℕ)
       let a = finds.sure in
       let b = count_same entry_of (λ row. was_sure (verdict row)) (is_settled dist pivots query radius) rows rows_sure in omega (arith, none, a, b)
 
+  -- what was found, in order, and what was counted are the answer to the query
   pub range-answer : (start found : Found ℕ) → start.kept.items ≡ [] → start.evals ≡ 0 → start.sure ≡ 0 → Finds verdict (λ (row : Row). row.id) rows start found
       → (ids : List ℕ) (evals : ℕ) → ids ≡ arranged nat_lt found.kept.items → evals ≡ length pivots + found.evals
       → record { ids = ids; evals = evals; sure = found.sure } ≡ range_answer dist pivots (entries_of rows) query radius

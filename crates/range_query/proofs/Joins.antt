@@ -1,32 +1,27 @@
--- What a whole pass over pairs has found is what a scan of all pairs finds.
-use Rattle.std.proofs.Common.{◌≡◌, ◌≢◌, ℕ, Bool, true, false, List, [], ◌∷◌, ◌++◌, length, suc, get_or, ◌<◌, Option, refl, sym, ap, ap₂, subst, ◌∙◌, arith}
-use Rattle.std.specs.Prelude.{◌&&◌, nat_lt, nat_le, if◌then◌else◌, filter, map, drop, All, AllPairs}
+-- What a whole pass over pairs of rows has found is what a scan of all pairs finds.
+use Rattle.std.proofs.Common.{◌≡◌, ◌≢◌, ℕ, Bool, true, false, List, [], ◌∷◌, ◌++◌, length, suc, get_or, ◌<◌, Option, refl, sym, ap, subst, ◌∙◌, append-nil, arith}
+use Rattle.std.specs.Prelude.{◌&&◌, nat_lt, if◌then◌else◌, map, drop, All, AllPairs}
 use Rattle.std.specs.List.Sorted.{IsPermutation}
 use Rattle.std.proofs.lemmas.List.{length-map, map-append}
 use Rattle.std.proofs.lemmas.List.Elements.{All-nil, All-head, All-tail, All-weaker, All-append, All-map, All-drop, All-get_or}
-use Rattle.std.proofs.lemmas.List.Sorted.{IsPermutation-map}
 use Rattle.metric_laws.specs.Log.{Measured, GrewInAnyOrder}
-use Rattle.metric_laws.specs.LogLaws.{Grew-same}
 use Rattle.answer_lists.specs.Order.{goes_before, arranged}
-use Rattle.answer_lists.specs.Permutations.{permutation-filter}
-use Rattle.scan_laws.specs.RowOrder.{join_answer-moved}
 use Rattle.spb_defs.specs.Pivots.{cells_of}
-use Rattle.spb_defs.specs.Scans.{considered, scan_join, join_evals, join_sure, join_answer, join_visits, is_open_pair, is_settled_pair}
+use Rattle.spb_defs.specs.Scans.{considered, join_answer, join_visits}
 use Rattle.pivot_map.specs.Bounds.{BoundsHold}
 use Rattle.pivot_map.specs.Rows.{AreRows, entry_of, entries_of}
 use Rattle.pivot_map.specs.declared.row.Row.{Row}
-use Rattle.range_query.specs.declared.verdict.Verdict.{Verdict}
-use Rattle.range_query.specs.declared.found.Found.{Found}
-use Rattle.range_query.specs.Verdicts.{is_within, was_measured, was_sure}
-use Rattle.range_query.specs.Findings.{Finds, Measures}
-use Rattle.range_query.specs.Passes.{AreAlike, verdict_of_pair, ids_of, objects_of, pair_of, pairs_of, partners_of}
-use Rattle.range_query.proofs.Verdicts.{verdict_within, verdict_measured, verdict_sure}
+use Rattle.query_pass.specs.declared.verdict.Verdict.{Verdict}
+use Rattle.query_pass.specs.declared.verdict.Verdict.TheVariants.{Apart}
+use Rattle.query_pass.specs.declared.found.Found.{Found}
+use Rattle.query_pass.specs.Findings.{Finds, Measures}
+use Rattle.query_pass.specs.Pairs.{IsRow, ArePairs, entries_of_pair, verdict_of_pair, ids_of, objects_of, pair_of}
+use Rattle.query_pass.specs.JoinLaws as laws
+use Rattle.query_pass.specs.JoinLaws.{Entry}
+use Rattle.range_query.specs.Passes.{AreAlike, pairs_of, partners_of}
 use Rattle.range_query.proofs.Passing.{passed}
-use Rattle.range_query.proofs.Ends.{Entry, IsRow, each_row, kept_same, count_same}
+use Rattle.range_query.proofs.Ends.{each_row}
 use Rattle.range_query.proofs.Halves.{turned, turned_all, AreDistinct, considered-turned}
-
-abbrev pub entries_of_pair : Row × Row → Entry × Entry
-entries_of_pair pair = (entry_of pair.0, entry_of pair.1)
 
 -- ---- rows and their entries
 
@@ -125,64 +120,31 @@ module _ (admitted : List ℕ → Type 0) (dist : List ℕ → List ℕ → ℕ)
   abbrev looked_at : List (Entry × Entry)
   looked_at = considered same (entries_of left) (entries_of right)
 
-  moved : IsPermutation looked_at (map entries_of_pair pairs)
-  moved = passed-considered admitted dist pivots same left right one first
+  are_pairs : ArePairs admitted dist pivots pairs
+  are_pairs =
+      let lefts = each_row admitted dist pivots left first in
+      let rights = each_row admitted dist pivots right second in record {
+        left = all_passed admitted dist pivots (λ (pair : Row × Row). IsRow admitted dist pivots pair.0) (λ a b ra rb. ra) same left right lefts rights;
+        right = all_passed admitted dist pivots (λ (pair : Row × Row). IsRow admitted dist pivots pair.1) (λ a b ra rb. rb) same left right lefts rights;
+      }
 
-  each_pair : (P : Row × Row → Type 0) → ((a b : Row) → IsRow admitted dist pivots a → IsRow admitted dist pivots b → P (a, b)) → All P pairs
-  each_pair P holds = all_passed admitted dist pivots P holds same left right (each_row admitted dist pivots left first) (each_row admitted dist pivots right second)
+  -- none is left out
+  whole : pairs ≡ pairs ++ []
+  whole = sym (append-nil pairs)
 
-  pairs_within : All (λ p. is_within (verdict p) ≡ nat_le (dist (entries_of_pair p).0.1 (entries_of_pair p).1.1) radius) pairs
-  pairs_within = each_pair (λ p. is_within (verdict p) ≡ nat_le (dist (entries_of_pair p).0.1 (entries_of_pair p).1.1) radius)
-      (λ a b ra rb. verdict_within admitted dist pivots bounds a.object b.object a.vect b.vect radius ra.object rb.object ra.vector rb.vector)
+  all_are : ArePairs admitted dist pivots (pairs ++ [])
+  all_are = subst (λ (all : List (Row × Row)). ArePairs admitted dist pivots all) whole are_pairs
 
-  pairs_measured : All (λ p. was_measured (verdict p) ≡ is_open_pair dist pivots radius (entries_of_pair p)) pairs
-  pairs_measured = each_pair (λ p. was_measured (verdict p) ≡ is_open_pair dist pivots radius (entries_of_pair p))
-      (λ a b ra rb. verdict_measured admitted dist pivots bounds a.object b.object a.vect b.vect radius ra.object rb.object ra.vector rb.vector)
+  all_moved : IsPermutation looked_at (map entries_of_pair (pairs ++ []))
+  all_moved = subst (λ (all : List (Row × Row)). IsPermutation looked_at (map entries_of_pair all)) whole (passed-considered admitted dist pivots same left right one first)
 
-  pairs_sure : All (λ p. was_sure (verdict p) ≡ is_settled_pair dist pivots radius (entries_of_pair p)) pairs
-  pairs_sure = each_pair (λ p. was_sure (verdict p) ≡ is_settled_pair dist pivots radius (entries_of_pair p))
-      (λ a b ra rb. verdict_sure admitted dist pivots bounds a.object b.object a.vect b.vect radius ra.object rb.object ra.vector rb.vector)
-
-  abbrev entries : List (Entry × Entry)
-  entries = map entries_of_pair pairs
-
-  join-pairs : (start found : Found (ℕ × ℕ)) → start.kept.items ≡ [] → Finds verdict ids_of pairs start found → arranged goes_before found.kept.items ≡ scan_join dist entries radius
-  join-pairs start found none finds =
-      ap (arranged goes_before)
-      (finds.kept ∙ ap (λ kept. kept ++ map ids_of (filter (λ p. is_within (verdict p)) pairs)) none
-      ∙ kept_same {K = ℕ × ℕ} entries_of_pair (λ p. is_within (verdict p)) (λ p. nat_le (dist p.0.1 p.1.1) radius) ids_of (λ p. (p.0.0, p.1.0)) (λ p. refl) pairs pairs_within)
-
-  join-evals : (start found : Found (ℕ × ℕ)) → start.evals ≡ 0 → Finds verdict ids_of pairs start found → found.evals ≡ join_evals dist pivots entries radius
-  join-evals start found none finds =
-      let a = finds.evals in
-      let b = count_same entries_of_pair (λ p. was_measured (verdict p)) (is_open_pair dist pivots radius) pairs pairs_measured in omega (arith, none, a, b)
-
-  join-sure : (start found : Found (ℕ × ℕ)) → start.sure ≡ 0 → Finds verdict ids_of pairs start found → found.sure ≡ join_sure dist pivots entries radius
-  join-sure start found none finds =
-      let a = finds.sure in
-      let b = count_same entries_of_pair (λ p. was_sure (verdict p)) (is_settled_pair dist pivots radius) pairs pairs_sure in omega (arith, none, a, b)
-
-  of-parts : (ids : List (ℕ × ℕ)) (evals sure : ℕ) → ids ≡ scan_join dist entries radius → evals ≡ join_evals dist pivots entries radius → sure ≡ join_sure dist pivots entries radius
-      → record { pairs = ids; evals = evals; sure = sure } ≡ join_answer dist pivots entries radius
-  unfolding join_answer
-  of-parts ids evals sure a b c =
-      ap (λ ids. record { pairs = ids; evals = evals; sure = sure }) a ∙ ap₂ (λ evals sure. record { pairs = scan_join dist entries radius; evals = evals; sure = sure }) b c
+  none_apart : All (λ pair. verdict pair ≡ Apart) []
+  none_apart = All-nil (λ pair. verdict pair ≡ Apart)
 
   pub join-answer : (start found : Found (ℕ × ℕ)) → start.kept.items ≡ [] → start.evals ≡ 0 → start.sure ≡ 0 → Finds verdict ids_of pairs start found
       → (ids : List (ℕ × ℕ)) → ids ≡ arranged goes_before found.kept.items → record { pairs = ids; evals = found.evals; sure = found.sure } ≡ join_answer dist pivots looked_at radius
-  join-answer start found none no_evals no_sure finds ids is =
-      of-parts ids found.evals found.sure (is ∙ join-pairs start found none finds) (join-evals start found no_evals finds) (join-sure start found no_sure finds)
-      ∙ sym (join_answer-moved dist pivots looked_at entries moved radius)
+  join-answer = laws.join-answer admitted dist pivots bounds radius pairs [] looked_at all_are all_moved none_apart
 
   pub join-log : (count : ℕ) (log : Option (List Measured)) (count' : ℕ) (log' : Option (List Measured)) → Measures verdict objects_of pairs count log count' log'
       → GrewInAnyOrder log log' (join_visits dist pivots looked_at radius)
-  unfolding join_visits
-  join-log count log count' log' measures =
-      let objects : Entry × Entry → Measured = λ p. (p.0.1, p.1.1) in
-      let opened : Entry × Entry → Bool = is_open_pair dist pivots radius in
-      let visits : map {B = Measured} objects_of (filter (λ p. was_measured (verdict p)) pairs) ≡ map objects (filter opened (map entries_of_pair pairs)) =
-      kept_same {K = Measured} entries_of_pair (λ p. was_measured (verdict p)) opened objects_of objects (λ p. refl) pairs pairs_measured in (
-        map objects (filter opened (map entries_of_pair pairs)),
-        IsPermutation-map objects (filter opened looked_at) (filter opened (map entries_of_pair pairs)) (permutation-filter opened looked_at (map entries_of_pair pairs) moved),
-        Grew-same log log' _ _ visits measures.logged,
-      )
+  join-log = laws.join-log admitted dist pivots bounds radius pairs [] looked_at all_are all_moved none_apart

@@ -1,5 +1,4 @@
 pub mod Passing
-pub mod Verdicts
 pub mod Ends
 pub mod Halves
 pub mod Joins

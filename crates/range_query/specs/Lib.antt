@@ -1,6 +1,4 @@
-pub mod Findings
 pub mod Passes
-pub mod Verdicts
 pub use Rattle.spb_defs.specs.Scans
 pub use Rattle.pivot_map.specs.Rows
 pub use Rattle.metric_laws.specs.Log

@@ -2,15 +2,15 @@
 ghost use Rattle.std.specs.Prelude.{length, ◌≤◌, ◌≡◌, ℕ, ◌+◌, ◌^◌, ◌<◌, true, IfOk, OnOk};
 ghost use Rattle.metric_laws.specs.Log.{GrewInAnyOrder};
 ghost use Rattle.spb_defs.specs.Scans.{considered, join_answer, join_visits};
-ghost use Rattle.range_query.specs.Findings.{Finds, Measures};
-ghost use Rattle.range_query.specs.Passes.{AreAlike, verdict_of_pair, ids_of, objects_of, pair_of, pairs_of, partners_of};
+ghost use Rattle.query_pass.specs.Findings.{Finds, Measures};
+ghost use Rattle.query_pass.specs.Pairs.{verdict_of_pair, ids_of, objects_of, pair_of};
+ghost use Rattle.range_query.specs.Passes.{AreAlike, pairs_of, partners_of};
 ghost use Rattle.pivot_map.specs.Rows.{ArePivots, AreRows, entries_of};
 
-use crate::found::Found;
-use crate::verdict::judge;
 use answer_lists::arrange;
 use metric_laws::Ruler;
-use pivot_map::{Pairs, Row};
+use pivot_map::{Pairs, Row, test_pair};
+use query_pass::{Found, judge_by};
 use spb_defs::JoinAnswer;
 use spb_edge::{Bytes, Memory};
 use std::alloc::Global;
@@ -38,6 +38,7 @@ pub fn join_rows<R: Ruler>(
     requires room { R.count ruler.old < 2 ^ 63 }
     ensures answer { IfOk result (λ answer. answer ≡ join_answer (R.dist (R.kind ruler.old)) pivots.now (considered same (entries_of left.now) (entries_of right.now)) r) }
     ensures count { IfOk result (λ answer. R.count ruler.new ≡ R.count ruler.old + answer.evals) }
+    ensures rises { R.count ruler.old ≤ R.count ruler.new }
     ensures log { OnOk result (GrewInAnyOrder (R.log ruler.old) (R.log ruler.new)
         (join_visits (R.dist (R.kind ruler.old)) pivots.now (considered same (entries_of left.now) (entries_of right.now)) r)) }
     ensures kind { R.kind ruler.new ≡ R.kind ruler.old }
@@ -81,11 +82,19 @@ fn pair_up<R: Ruler>(
     ensures found { OnOk result (Finds (verdict_of_pair (R.dist (R.kind ruler.old)) r) ids_of (pairs_of same others.now row.now) found.old found.new) }
     ensures measured { OnOk result (Measures (verdict_of_pair (R.dist (R.kind ruler.old)) r) objects_of (pairs_of same others.now row.now)
         (R.count ruler.old) (R.log ruler.old) (R.count ruler.new) (R.log ruler.new)) }
+    ensures rises { R.count ruler.old ≤ R.count ruler.new }
     ensures kind { R.kind ruler.new ≡ R.kind ruler.old }
 {
     for other in others {
         let (first, second) = in_order(row, other, same);
-        let verdict = judge(ruler, first.object.as_slice(), &first.vect, second, r);
+        let told = test_pair(&first.vect, &second.vect, r);
+        let verdict = judge_by(
+            ruler,
+            told,
+            first.object.as_slice(),
+            second.object.as_slice(),
+            r,
+        );
         found.note((first.id, second.id), verdict)?;
     }
     Ok(())

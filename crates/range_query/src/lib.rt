@@ -1,12 +1,10 @@
 //! Ranges and joins, answered with few distances: exactly what a scan of all objects gives.
 #![tactic(auto)]
 
-mod found;
 mod join;
 mod range;
 #[cfg(test)]
 mod tests;
-mod verdict;
 
 pub use join::join_rows;
 pub use range::range_rows;

@@ -1,14 +1,13 @@
 //! Ranges over rows.
-ghost use Rattle.std.specs.Prelude.{◌≡◌, ℕ, ◌+◌, ◌^◌, ◌<◌, IfOk, OnOk};
+ghost use Rattle.std.specs.Prelude.{◌≡◌, ℕ, ◌+◌, ◌^◌, ◌<◌, ◌≤◌, IfOk, OnOk};
 ghost use Rattle.metric_laws.specs.Log.{Grew, each_with};
 ghost use Rattle.spb_defs.specs.Scans.{range_answer, range_visits};
 ghost use Rattle.pivot_map.specs.Rows.{ArePivots, AreRows, entries_of};
 
-use crate::found::Found;
-use crate::verdict::judge;
 use answer_lists::arrange_ids;
 use metric_laws::Ruler;
-use pivot_map::{Ids, Row, map_object};
+use pivot_map::{Ids, Row, map_object, test_query};
+use query_pass::{Found, judge_by};
 use spb_defs::RangeAnswer;
 use spb_edge::{Bytes, Memory};
 use std::alloc::Global;
@@ -32,6 +31,7 @@ pub fn range_rows<R: Ruler>(
     requires room { R.count ruler.old < 2 ^ 63 }
     ensures answer { IfOk result (λ answer. answer ≡ range_answer (R.dist (R.kind ruler.old)) pivots.now (entries_of rows.now) q.now r) }
     ensures count { IfOk result (λ answer. R.count ruler.new ≡ R.count ruler.old + answer.evals) }
+    ensures rises { R.count ruler.old ≤ R.count ruler.new }
     ensures log { OnOk result (Grew (R.log ruler.old) (R.log ruler.new)
         (each_with q.now (range_visits (R.dist (R.kind ruler.old)) pivots.now (entries_of rows.now) q.now r))) }
     ensures kind { R.kind ruler.new ≡ R.kind ruler.old }
@@ -39,7 +39,8 @@ pub fn range_rows<R: Ruler>(
     let asked = map_object(ruler, pivots, q);
     let mut found = Found::new(alloc);
     for row in rows {
-        let verdict = judge(ruler, q, &asked, row, r);
+        let told = test_query(&asked, &row.vect, r);
+        let verdict = judge_by(ruler, told, q, row.object.as_slice(), r);
         found.note(row.id, verdict)?;
     }
     arrange_ids(&mut found.kept);

@@ -176,6 +176,23 @@ fn a_join_of_two_collections(rt: HostRuntime) -> Result<(), Fail> {
 }
 
 #[test]
+fn a_join_measures_the_open_pairs(rt: HostRuntime) -> Result<(), Fail> {
+    let pivots = pivots_of(rt.alloc(), PLANE, &corners())?;
+    let three = [(9, pair(2, 2)), (1, pair(1, 1)), (4, pair(2, 1))];
+    let rows = rows_of(rt.alloc(), PLANE, &pivots, &three)?;
+    let mut ruler = Traced::new(rt.alloc(), PLANE);
+    join_rows(rt.alloc(), &rows, &rows, &pivots, true, &mut ruler, 1)?;
+    // (1, 1) and (2, 2) are apart: their distances to the first pivot are 2 and 4.
+    assert_eq!(rt; ruler.log().len(), 2);
+    for (left, right) in [(pair(1, 1), pair(2, 1)), (pair(2, 1), pair(2, 2))] {
+        assert!(rt; ruler.log().iter().any(|seen| {
+            seen.0.as_slice() == left.as_slice() && seen.1.as_slice() == right.as_slice()
+        }));
+    }
+    Ok(())
+}
+
+#[test]
 fn a_join_with_itself_in_any_order(rt: HostRuntime) -> Result<(), Fail> {
     let twins = [(1, pair(7, 7)), (2, pair(7, 7))];
     let answer = joined_with_itself(rt.alloc(), PLANE, &corners(), &twins, 0)?;

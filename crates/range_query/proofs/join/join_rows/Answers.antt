@@ -1,9 +1,11 @@
 use Rattle.std.proofs.Common.{[], ◌+◌, ◌++◌, length, List, refl, sym, subst, ◌∙◌, arith}
 use Rattle.pivot_map.specs.BoundLaws.{bounds_hold}
 use Rattle.pivot_map.specs.declared.row.Row.{Row}
-use Rattle.range_query.specs.Findings.{Finds, Measures}
-use Rattle.range_query.specs.Passes.{AreAlike, verdict_of_pair, ids_of, objects_of, pairs_of}
-use Rattle.range_query.proofs.Passing.{Finds-none, Measures-none, Finds-then, Measures-then, Measures-few, evals-few, sure-few, passed-more, passed-room, passed-all}
+use Rattle.query_pass.specs.Findings.{Finds, Measures}
+use Rattle.query_pass.specs.Pairs.{verdict_of_pair, ids_of, objects_of}
+use Rattle.query_pass.specs.PassLaws.{Finds-none, Measures-none, Finds-then, Measures-then, Measures-few, evals-few, sure-few}
+use Rattle.range_query.specs.Passes.{AreAlike, pairs_of}
+use Rattle.range_query.proofs.Passing.{passed-more, passed-room, passed-all}
 use Rattle.range_query.proofs.Joins.{partners-alike, join-answer, join-log}
 use Rattle.range_query.proofs.join.join_rows.Goals as goal
 

@@ -1,7 +1,7 @@
 use Rattle.std.proofs.Common.{◌≡◌, ◌++◌, drop, List}
 use Rattle.pivot_map.specs.declared.row.Row.{Row}
-use Rattle.range_query.specs.Findings.{Finds, Measures}
-use Rattle.range_query.specs.Passes.{verdict_of_pair, ids_of, objects_of}
+use Rattle.query_pass.specs.Findings.{Finds, Measures}
+use Rattle.query_pass.specs.Pairs.{verdict_of_pair, ids_of, objects_of}
 use Rattle.range_query.proofs.Passing.{passed}
 use Rattle.range_query.proofs.join.join_rows.Given as goal
 

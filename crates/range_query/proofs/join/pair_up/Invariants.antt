@@ -1,6 +1,7 @@
 use Rattle.std.proofs.Common.{◌≡◌, take}
-use Rattle.range_query.specs.Findings.{Finds, Measures}
-use Rattle.range_query.specs.Passes.{verdict_of_pair, ids_of, objects_of, pairs_of}
+use Rattle.query_pass.specs.Findings.{Finds, Measures}
+use Rattle.query_pass.specs.Pairs.{verdict_of_pair, ids_of, objects_of}
+use Rattle.range_query.specs.Passes.{pairs_of}
 use Rattle.range_query.proofs.join.pair_up.Given as goal
 
 -- the pairs with the rows so far were passed over

@@ -1,5 +1,5 @@
 use Rattle.std.proofs.Common.{◌≡◌, take}
-use Rattle.range_query.specs.Findings.{Finds, Measures}
+use Rattle.query_pass.specs.Findings.{Finds, Measures}
 use Rattle.range_query.specs.Passes.{verdict_of_row}
 use Rattle.range_query.proofs.range.range_rows.Given as goal
 

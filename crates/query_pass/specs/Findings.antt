@@ -1,9 +1,9 @@
 -- What a pass over rows, or pairs of rows, finds.
 use Rattle.std.specs.Prelude.{◌≡◌, ℕ, ◌+◌, ◌++◌, List, map, filter, count_by, Option}
 use Rattle.metric_laws.specs.Log.{Measured, Grew}
-use Rattle.range_query.specs.declared.verdict.Verdict.{Verdict}
-use Rattle.range_query.specs.declared.found.Found.{Found}
-use Rattle.range_query.specs.Verdicts.{is_within, was_measured, was_sure}
+use Rattle.query_pass.specs.declared.verdict.Verdict.{Verdict}
+use Rattle.query_pass.specs.declared.found.Found.{Found}
+use Rattle.query_pass.specs.Verdicts.{is_within, was_measured, was_sure}
 
 -- Between two states of what was found these were passed over: those within were kept by their names, and those that
 -- were measured and those that were sure were counted.
@@ -16,3 +16,9 @@ pub record Finds {A K : Type 0} (verdict : A → Verdict) (name : A → K) (pass
 pub record Measures {A : Type 0} (verdict : A → Verdict) (objects : A → Measured) (passed : List A) (count : ℕ) (log : Option (List Measured)) (count' : ℕ) (log' : Option (List Measured)) : Type 0 where
   pub counted : count' ≡ count + count_by (λ a. was_measured (verdict a)) passed
   pub logged : Grew log log' (map objects (filter (λ a. was_measured (verdict a)) passed))
+
+-- Between two states of what was found nothing was kept or counted.
+pub record IsSameFinding {K : Type 0} (before after : Found K) : Type 0 where
+  pub kept : after.kept.items ≡ before.kept.items
+  pub evals : after.evals ≡ before.evals
+  pub sure : after.sure ≡ before.sure

@@ -1,0 +1,9 @@
+pub mod Findings
+pub mod JoinLaws
+pub mod Pairs
+pub mod PassLaws
+pub mod VerdictLaws
+pub mod Verdicts
+pub use Rattle.spb_defs.specs.Scans
+pub use Rattle.pivot_map.specs.Rows
+pub use Rattle.metric_laws.specs.Log

@@ -1,0 +1,34 @@
+-- What is found out of two objects and a radius: what their vectors tell and, where that leaves it open,
+-- whether their distance is within the radius.
+use Rattle.std.specs.Prelude.{ℕ, Bool, true, false, if◌then◌else◌}
+use Rattle.pivot_map.specs.declared.verdict.PairTest.{PairTest}
+use Rattle.pivot_map.specs.declared.verdict.PairTest.TheVariants as told
+use Rattle.query_pass.specs.declared.verdict.Verdict.{Verdict}
+use Rattle.query_pass.specs.declared.verdict.Verdict.TheVariants.{Apart, Sure, Measured}
+
+-- the verdict, by what the vectors tell and whether the distance is within the radius
+abbrev pub verdict_of : PairTest → Bool → Verdict
+verdict_of told.Apart within = Apart
+verdict_of told.Sure within = Sure
+verdict_of told.Open within = Measured within
+
+-- the objects are within the radius of each other
+abbrev pub is_within : Verdict → Bool
+is_within Apart = false
+is_within Sure = true
+is_within (Measured within) = within
+
+-- their distance was measured
+abbrev pub was_measured : Verdict → Bool
+was_measured Apart = false
+was_measured Sure = false
+was_measured (Measured within) = true
+
+-- they are within by the pivots alone
+abbrev pub was_sure : Verdict → Bool
+was_sure Apart = false
+was_sure Sure = true
+was_sure (Measured within) = false
+
+abbrev pub one_if : Bool → ℕ
+one_if b = if b then 1 else 0
