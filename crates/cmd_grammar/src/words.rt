@@ -1,7 +1,7 @@
 ghost use Rattle.std.specs.Prelude.{◌≡◌, ◌≤◌, [], ◌∷◌, map, IfSome, IsTrue};
 ghost use Rattle.metrics_builtin.specs.Space.{fits};
 ghost use Rattle.std.specs.String.{string_bytes};
-ghost use Rattle.spb_defs.specs.Words.{fitting, parameter_in, space_in, setup_in, without_pivots, with_pivots, setup_of};
+ghost use Rattle.spb_defs.specs.Words.{fitting, parameter_in, space_in, setup_in, without_pivots, with_pivots, asked_of, memory_asked};
 
 use metrics_builtin::Space;
 use object_text::number;
@@ -12,9 +12,9 @@ use spb_defs::{MemorySetup, PIVOT_LIMIT};
 /// `mem sets UNIVERSE MOST` for sets of at most `MOST` numbers below `UNIVERSE`. One more word may follow,
 /// the number of pivots, 0 to 8; without it there are none.
 ///
-/// It is nothing where the words are others, and where no such space fits. It takes no memory.
+/// It is nothing if the words ask for something else or nothing, or if no such space fits. It takes no memory.
 pub fn read_words(words: &[String]) -> Option<MemorySetup>
-    ensures exact { result ≡ setup_of (map string_bytes words.now) }
+    ensures exact { result ≡ memory_asked (asked_of (map string_bytes words.now)) }
     ensures fits { IfSome result (λ setup. IsTrue (fits setup.space)) }
     ensures few { IfSome result (λ setup. setup.pivots ≤ 8) }
 {
@@ -38,9 +38,9 @@ pub fn read_words(words: &[String]) -> Option<MemorySetup>
 }
 
 /// The store that the words ask for, where one word stands behind the kind.
-#[tactic(auto, unfolding(spb_defs::specs::Words::setup_of))]
+#[tactic(auto, unfolding(spb_defs::specs::Words::asked_of))]
 fn one_word(name: &[u8], kind: &[u8], first: &[u8]) -> Option<MemorySetup>
-    ensures exact { result ≡ setup_of (name.now ∷ kind.now ∷ first.now ∷ []) }
+    ensures exact { result ≡ memory_asked (asked_of (name.now ∷ kind.now ∷ first.now ∷ [])) }
     ensures fits { IfSome result (λ setup. IsTrue (fits setup.space)) }
     ensures few { IfSome result (λ setup. setup.pivots ≤ 8) }
 {
@@ -52,9 +52,9 @@ fn one_word(name: &[u8], kind: &[u8], first: &[u8]) -> Option<MemorySetup>
 }
 
 /// The store that the words ask for, where two words stand behind the kind.
-#[tactic(auto, unfolding(spb_defs::specs::Words::setup_of))]
+#[tactic(auto, unfolding(spb_defs::specs::Words::asked_of))]
 fn two_words(name: &[u8], kind: &[u8], first: &[u8], second: &[u8]) -> Option<MemorySetup>
-    ensures exact { result ≡ setup_of (name.now ∷ kind.now ∷ first.now ∷ second.now ∷ []) }
+    ensures exact { result ≡ memory_asked (asked_of (name.now ∷ kind.now ∷ first.now ∷ second.now ∷ [])) }
     ensures fits { IfSome result (λ setup. IsTrue (fits setup.space)) }
     ensures few { IfSome result (λ setup. setup.pivots ≤ 8) }
 {
@@ -69,7 +69,7 @@ fn two_words(name: &[u8], kind: &[u8], first: &[u8], second: &[u8]) -> Option<Me
 }
 
 /// The store that the words ask for, where three words stand behind the kind.
-#[tactic(auto, unfolding(spb_defs::specs::Words::setup_of))]
+#[tactic(auto, unfolding(spb_defs::specs::Words::asked_of))]
 fn three_words(
     name: &[u8],
     kind: &[u8],
@@ -77,7 +77,7 @@ fn three_words(
     second: &[u8],
     third: &[u8],
 ) -> Option<MemorySetup>
-    ensures exact { result ≡ setup_of (name.now ∷ kind.now ∷ first.now ∷ second.now ∷ third.now ∷ []) }
+    ensures exact { result ≡ memory_asked (asked_of (name.now ∷ kind.now ∷ first.now ∷ second.now ∷ third.now ∷ [])) }
     ensures fits { IfSome result (λ setup. IsTrue (fits setup.space)) }
     ensures few { IfSome result (λ setup. setup.pivots ≤ 8) }
 {
