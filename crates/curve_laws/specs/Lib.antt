@@ -1,3 +1,5 @@
 pub mod Fields
 pub mod Grid
+pub mod GridLaws
 pub mod Laws
+pub mod Vectors

@@ -12,4 +12,4 @@ mod vect;
 
 pub use curve::{Curve, obeys_laws};
 pub use grid::Grid;
-pub use vect::Vect;
+pub use vect::{Vect, vectors_are_ordered};

@@ -52,7 +52,7 @@ key_back n b k key =
     ∙ key_from-coordinate n key.grid.some_axis key.grid.few_axes b 0 0 k (pow_pos n) key.below
 
 -- the laws of a curve
-pub hilbert_is_curve : (n b : ℕ) → IsCurve (IsCell n b) (IsKey n b) (hilbert_key n b) (hilbert_cell n b)
+pub hilbert_is_curve : (n b : ℕ) → IsCurve n b (hilbert_key n b) (hilbert_cell n b)
 hilbert_is_curve n b = record {
   key_of_cell = key_of_cell n b;
   cell_of_key = cell_of_key n b;

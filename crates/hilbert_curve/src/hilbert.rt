@@ -40,13 +40,12 @@ macro_rules! by_axes {
 
 impl Curve for Hilbert {
     ghost use Rattle.std.specs.Prelude.{ℕ, List};
-    ghost use Rattle.curve_laws.specs.Grid.{IsCell, IsKey};
     ghost use Rattle.hilbert_curve.specs.Curve.{hilbert_key, hilbert_cell};
     ghost use Rattle.hilbert_curve.specs.CurveLaws.{hilbert_is_curve};
 
-    ghost is_cell = { λ c v. IsCell c.n c.b v };
+    ghost axes = { λ c. c.n };
 
-    ghost is_key = { λ c k. IsKey c.n c.b k };
+    ghost bits = { λ c. c.b };
 
     ghost key_of = { λ c v. hilbert_key c.n c.b v };
 

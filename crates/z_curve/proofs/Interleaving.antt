@@ -3,11 +3,13 @@ use Rattle.std.proofs.Common.{◌≡◌, ℕ, zero, suc, ◌+◌, ◌-◌, ◌*�
 use Rattle.std.specs.Prelude.{All}
 use Rattle.std.proofs.lemmas.Bool.{cases_lt}
 use Rattle.std.proofs.lemmas.List.{length-map, take-append-drop, take_more, take_all}
-use Rattle.std.proofs.lemmas.List.Elements.{All-tail, length_all_zip}
+use Rattle.std.proofs.lemmas.List.Elements.{All-tail}
 use Rattle.std.proofs.lemmas.Nat.{pow_pos, pow-add, shr_below, mul-le, le-div}
 use Rattle.std.proofs.Math.Nat.{pow-le-pow_right}
 use Rattle.curve_laws.specs.Grid.{IsGrid, IsCell}
-use Rattle.z_curve.specs.ZOrder.{halves, low_bits, z_key, IsUpTo}
+use Rattle.curve_laws.specs.GridLaws.{cell_up_to}
+use Rattle.curve_laws.specs.Vectors.{IsUpTo, length-IsUpTo}
+use Rattle.z_curve.specs.ZOrder.{halves, low_bits, z_key}
 use Rattle.z_curve.specs.ZLaws.{z_key-below}
 use Rattle.z_curve.specs.Spacing.{width, pieces, spread}
 use Rattle.z_curve.proofs.Pieces.{pieces-one, pieces-zero}
@@ -137,27 +139,17 @@ interleaved-le n b [] (y ∷ ys) some h k = absurd h
 interleaved-le n b (x ∷ xs) [] some h k = absurd h
 interleaved-le n b (x ∷ xs) (y ∷ ys) some h k =
     let first : spread n b x ≤ spread n b y = spread-le n b x y some h.0 (k 0 0 (omega arith)) in
-    let long : length xs ≡ length ys = length_all_zip (λ v w. v ≤ w) xs ys h.1 in
+    let long : length xs ≡ length ys = length-IsUpTo xs ys h.1 in
     let power : 2 ^ length xs ≡ 2 ^ length ys = ap (λ t. 2 ^ t) long in
     let rest : interleaved n b xs ≤ interleaved n b ys = interleaved-le n b xs ys some h.1 (All-tail (λ z. z < 2 ^ b) y ys k) in
     let product : spread n b x * 2 ^ length xs ≤ spread n b y * 2 ^ length ys =
     mul-le (spread n b x) (2 ^ length xs) (spread n b y) (2 ^ length ys) first (omega arith) in
     omega arith
 
--- what is nowhere past a cell has as few bits
-pub All-up_to : (b : ℕ) (v w : List ℕ) → IsUpTo v w → All (λ x. x < 2 ^ b) w → All (λ x. x < 2 ^ b) v
-All-up_to b [] w h k i d within = absurd (omega arith)
-All-up_to b (x ∷ xs) [] h k i d within = absurd h
-All-up_to b (x ∷ xs) (y ∷ ys) h k zero d within =
-    let here : y < 2 ^ b = k 0 0 (omega arith) in
-    let up_to : x ≤ y = h.0 in
-    omega arith
-All-up_to b (x ∷ xs) (y ∷ ys) h k (suc i) d within = All-up_to b xs ys h.1 (All-tail (λ z. z < 2 ^ b) y ys k) i d (omega arith)
-
 -- of two vectors, the one that is nowhere past the other has no greater key
 pub z_key-le : (n b : ℕ) (v w : List ℕ) → 1 ≤ n → length w ≡ n → IsUpTo v w → All (λ x. x < 2 ^ b) w → z_key b v ≤ z_key b w
 z_key-le n b v w some long up_to below =
-    let as_long : length v ≡ n = length_all_zip (λ x y. x ≤ y) v w up_to ∙ long in
+    let as_long : length v ≡ n = length-IsUpTo v w up_to ∙ long in
     let order : interleaved n b v ≤ interleaved n b w = interleaved-le n b v w some up_to below in
     omega (arith, z_key-interleaved n b v as_long, z_key-interleaved n b w long)
 
@@ -197,9 +189,9 @@ key-fits n b v cell =
 -- a vector between two corners has a key between theirs
 pub key_between : (n b : ℕ) (low v high : List ℕ) → IsCell n b high → IsUpTo low v → IsUpTo v high → (z_key b low ≤ z_key b v) × (z_key b v ≤ z_key b high)
 key_between n b low v high cell above below =
-    let long : length v ≡ n = length_all_zip (λ x y. x ≤ y) v high below ∙ cell.axes in
+    let long : length v ≡ n = length-IsUpTo v high below ∙ cell.axes in
     let some : 1 ≤ n = cell.grid.some_axis in
-    (z_key-le n b low v some long above (All-up_to b v high below cell.below), z_key-le n b v high some cell.axes below cell.below)
+    (z_key-le n b low v some long above (cell_up_to n b v high cell below).below, z_key-le n b v high some cell.axes below cell.below)
 
 -- without coordinates there is nothing
 pub nothing_interleaved : (n b : ℕ) → 0 ≡ interleaved n b []

@@ -6,7 +6,6 @@ use Rattle.std.proofs.lemmas.List.Elements.{All-tail}
 use Rattle.std.proofs.lemmas.Nat.{pow_pos, pow-add, shr-shr, mod-pow-add, mul-add-lt, same_from_place, div-add-mod', shr_high, mod_low, shr_below}
 use Rattle.std.proofs.Math.Nat.{add_comm}
 use Rattle.curve_laws.specs.Laws.{IsCurve}
-use Rattle.curve_laws.specs.Grid.{IsCell, IsKey}
 use Rattle.z_curve.specs.ZOrder.{halves, low_bits, z_key, gathered, last_coordinates, z_cell}
 
 -- ---- bounds
@@ -169,7 +168,7 @@ key_back n (suc b) k h =
 
 -- ---- the curve
 
-pub is_curve : (n b : ℕ) → IsCurve (IsCell n b) (IsKey n b) (z_key b) (z_cell n b)
+pub is_curve : (n b : ℕ) → IsCurve n b (z_key b) (z_cell n b)
 is_curve n b = record {
   key_of_cell = λ v cell. record {
     grid = cell.grid;

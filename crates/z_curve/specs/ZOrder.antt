@@ -1,6 +1,5 @@
 -- The Z-order curve: which cells and keys it has, and which belong to each other.
-use Rattle.std.specs.Prelude.{ℕ, zero, suc, ◌+◌, ◌*◌, ◌/◌, ◌%◌, ◌^◌, ◌≤◌, List, [], ◌∷◌, length, map}
-use Rattle.std.specs.List.{AllZip}
+use Rattle.std.specs.Prelude.{ℕ, zero, suc, ◌+◌, ◌*◌, ◌/◌, ◌%◌, ◌^◌, List, [], ◌∷◌, length, map}
 
 -- ---- the key of a cell
 
@@ -33,9 +32,3 @@ last_coordinates n b (suc m) k = gathered n b (k / 2 ^ m) ∷ last_coordinates n
 -- the n coordinates of b bits that a key has
 abbrev pub z_cell : ℕ → ℕ → ℕ → List ℕ
 z_cell n b k = last_coordinates n b n k
-
--- ---- the order of vectors
-
--- no coordinate of the first vector is past that of the second
-abbrev pub IsUpTo : List ℕ → List ℕ → Type 0
-IsUpTo v w = AllZip (λ x y. x ≤ y) v w

@@ -1,7 +1,8 @@
 //! The curve and its laws.
 ghost use Rattle.std.specs.Prelude.{◌≡◌, ℕ, ◌≤◌, List};
 ghost use Rattle.curve_laws.specs.Grid.{IsCell, IsKey};
-ghost use Rattle.z_curve.specs.ZOrder.{IsUpTo, z_key, z_cell};
+ghost use Rattle.curve_laws.specs.Vectors.{IsUpTo};
+ghost use Rattle.z_curve.specs.ZOrder.{z_key, z_cell};
 ghost use Rattle.z_curve.specs.ZLaws.{is_curve};
 
 use crate::spacing::{gather, spread};
@@ -21,9 +22,9 @@ pub struct ZCurve {
 }
 
 impl Curve for ZCurve {
-    ghost is_cell = { λ c. IsCell c.n c.b };
+    ghost axes = { λ c. c.n };
 
-    ghost is_key = { λ c. IsKey c.n c.b };
+    ghost bits = { λ c. c.b };
 
     ghost key_of = { λ c. z_key c.b };
 
