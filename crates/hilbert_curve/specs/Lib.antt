@@ -10,3 +10,4 @@ pub mod Rows
 pub mod StepLaws
 pub mod Tables
 pub mod WalkLaws
+pub mod WrittenRows

@@ -1,11 +1,10 @@
 -- What the checked rows of the tables say, row by row.
-use Rattle.std.proofs.Common.{◌≡◌, ℕ, zero, suc, ◌+◌, ◌-◌, ◌*◌, ◌/◌, ◌%◌, ◌^◌, ◌<◌, ◌≤◌, refl, Bool, true, ◌&&◌, ◌==◌, if◌then◌else◌, nat_lt, arith}
+use Rattle.std.proofs.Common.{◌≡◌, ℕ, zero, suc, ◌+◌, ◌-◌, ◌*◌, ◌/◌, ◌%◌, ◌^◌, ◌<◌, ◌≤◌, Bool, true, ◌&&◌, ◌==◌, if◌then◌else◌, nat_lt, arith}
 use Rattle.std.specs.Int.{bit_at}
 use Rattle.std.specs.Int.Bits.{bit_xor, xor_lt}
 use Rattle.std.proofs.lemmas.Bool.{and_parts}
 use Rattle.std.proofs.lemmas.Bool.Decides.{nat_tests}
 use Rattle.std.proofs.lemmas.Nat.{pow_pos, shr_le, mod_below}
-use Rattle.hilbert_curve.specs.Axes.{holds_below, below_holds, for_axes}
 use Rattle.hilbert_curve.specs.Tables.{gray, ungray, trailing_ones, entry, direction, is_inner, is_last, is_row}
 
 -- a row before the last: the next code differs in one bit, and where the curve leaves this part it enters the next
@@ -27,13 +26,6 @@ pub record IsRow (n w : ℕ) : Type 0 where
   pub code_forth : gray (ungray n w) ≡ w
   pub inner : w + 1 < 2 ^ n → IsInner n w
   pub last : w + 1 ≡ 2 ^ n → IsLast n w
-
--- whether w is a row of the tables by the formulas
-abbrev pub is_row_of : ℕ → ℕ → Bool
-is_row_of n w = is_row n w (gray w) (entry w) (direction n w)
-
-rows_hold : (n : ℕ) → 0 < n → n ≤ 8 → holds_below (is_row_of n) (2 ^ n) ≡ true
-rows_hold = for_axes (λ n. holds_below (is_row_of n) (2 ^ n) ≡ true) refl refl refl refl refl refl refl refl
 
 eq_from : (a b : ℕ) → (a == b) ≡ true → a ≡ b
 eq_from a b h = grind (arith, nat_tests)
@@ -85,10 +77,6 @@ row_from n w g e d h =
       inner = λ l. inner_from n w (choice_false (w + 1) (2 ^ n) (is_last n w) (is_inner n w) all.1 l);
       last = λ i. last_from n w (choice_true (w + 1) (2 ^ n) (is_last n w) (is_inner n w) all.1 i);
     }
-
--- each row of each table
-pub row : (n w : ℕ) → 0 < n → n ≤ 8 → w < 2 ^ n → IsRow n w
-row n w some few l = row_from n w (gray w) (entry w) (direction n w) (below_holds (is_row_of n) (2 ^ n) w (rows_hold n some few) l)
 
 -- the columns of a row as a table has them, and its facts
 pub record IsTableRow (n w g e d : ℕ) : Type 0 where

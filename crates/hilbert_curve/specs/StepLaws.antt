@@ -1,4 +1,4 @@
--- From one key to the next: the two cells differ by one on one axis, by induction over the groups from the rows alone.
+-- From one key to the next: the two cells differ by one on one axis, by induction over the groups from the written rows alone.
 use Rattle.std.proofs.Common.{◌≡◌, ◌≢◌, ℕ, zero, suc, ◌+◌, ◌-◌, ◌*◌, ◌/◌, ◌%◌, ◌^◌, ◌<◌, ◌≤◌, ◌⊎◌, inl, inr, refl, sym, ap, subst, ◌∙◌, Bool, true, false, ◌==◌, if◌then◌else◌, Option, Some, arith}
 use Rattle.std.specs.Int.{bit_at}
 use Rattle.std.specs.Int.Bits.{bit_xor, xor_lt, xor_assoc, xor_self, xor_zero_r, xor_zero_l}
@@ -9,7 +9,8 @@ use Rattle.std.proofs.lemmas.Nat.Bits.{bit_at-lt, bit_at_xor, bit_at-pow_same, b
 use Rattle.hilbert_curve.specs.Tables.{gray, trailing_ones, entry, direction}
 use Rattle.hilbert_curve.specs.Curve.{turned, cell_bits, next_entry, next_direction, coordinate}
 use Rattle.hilbert_curve.specs.Rotation.{small_mod, small_div, turned-xor, turned-pow, bit_at-turned}
-use Rattle.hilbert_curve.specs.RowLaws.{IsInner, row, gray-lt, entry-lt, direction-lt}
+use Rattle.hilbert_curve.specs.RowLaws.{IsInner, gray-lt, entry-lt, direction-lt}
+use Rattle.hilbert_curve.specs.WrittenRows.{row}
 use Rattle.hilbert_curve.specs.Lanes.{lane_room}
 use Rattle.hilbert_curve.specs.WalkLaws.{coordinate_by, coordinate_at, twice_pow, next_entry-lt, next_direction-lt}
 

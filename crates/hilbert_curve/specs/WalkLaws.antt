@@ -1,4 +1,4 @@
--- Laws of the walk: keys and cells belong to each other, by induction over the groups from the rows alone.
+-- Laws of the walk: keys and cells belong to each other, by induction over the groups from the written rows alone.
 use Rattle.std.proofs.Common.{◌≡◌, ℕ, zero, suc, ◌+◌, ◌-◌, ◌*◌, ◌/◌, ◌%◌, ◌^◌, ◌<◌, ◌≤◌, refl, sym, ap, subst, ◌∙◌, arith}
 use Rattle.std.specs.Int.{bit_at}
 use Rattle.std.specs.Int.Bits.{bit_xor, xor_lt, xor_assoc, xor_self, xor_zero_r}
@@ -7,7 +7,8 @@ use Rattle.std.proofs.lemmas.Nat.Bits.{bit_at-lt}
 use Rattle.hilbert_curve.specs.Tables.{gray, ungray, entry, direction}
 use Rattle.hilbert_curve.specs.Curve.{turned, cell_bits, next_entry, next_direction, coordinate, lanes, group_of, group_at, key_from}
 use Rattle.hilbert_curve.specs.Rotation.{small_mod, turned-lt, turned_back, turned_forth}
-use Rattle.hilbert_curve.specs.RowLaws.{row, gray-lt, entry-lt, ungray-lt}
+use Rattle.hilbert_curve.specs.RowLaws.{gray-lt, entry-lt, ungray-lt}
+use Rattle.hilbert_curve.specs.WrittenRows.{row}
 use Rattle.hilbert_curve.specs.Lanes.{lanes_same, lane_room, lanes-lt, bit_at-lanes, lanes_of_bits}
 
 -- to xor twice is to leave alone
