@@ -1,5 +1,5 @@
 -- What the cells of a grid have in common.
-use Rattle.std.specs.Prelude.{◌≡◌, ℕ, ◌^◌, ◌<◌, ◌≤◌, min, max, List, [], ◌∷◌, length, All, zero, suc}
+use Rattle.std.specs.Prelude.{ℕ, ◌^◌, ◌<◌, List, [], ◌∷◌, All, zero, suc}
 use Rattle.std.proofs.Common.{◌∙◌, sym, arith}
 use Rattle.std.proofs.lemmas.List.Elements.{All-tail}
 use Rattle.curve_laws.specs.Grid.{IsCell}

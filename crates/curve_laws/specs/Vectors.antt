@@ -67,8 +67,7 @@ up_to-low_corner u [] (y ∷ ys) h = absurd (omega (arith, h))
 up_to-low_corner u (x ∷ xs) [] h = absurd (omega (arith, h))
 up_to-low_corner [] (x ∷ xs) (y ∷ ys) h = (λ below. absurd below, λ below. absurd below.0)
 up_to-low_corner (u ∷ us) (x ∷ xs) (y ∷ ys) h =
-    let rest = up_to-low_corner us xs ys (omega (arith, h)) in
-    (
+    let rest = up_to-low_corner us xs ys (omega (arith, h)) in (
       λ below. ((omega (arith, below.0), (rest.0 below.1).0), (omega (arith, below.0), (rest.0 below.1).1)),
       λ below. (omega (arith, below.0.0, below.1.0), rest.1 (below.0.1, below.1.1)),
     )
@@ -82,8 +81,7 @@ high_corner-up_to u [] (y ∷ ys) h = absurd (omega (arith, h))
 high_corner-up_to u (x ∷ xs) [] h = absurd (omega (arith, h))
 high_corner-up_to [] (x ∷ xs) (y ∷ ys) h = (λ above. absurd above, λ above. absurd above.0)
 high_corner-up_to (u ∷ us) (x ∷ xs) (y ∷ ys) h =
-    let rest = high_corner-up_to us xs ys (omega (arith, h)) in
-    (
+    let rest = high_corner-up_to us xs ys (omega (arith, h)) in (
       λ above. ((omega (arith, above.0), (rest.0 above.1).0), (omega (arith, above.0), (rest.0 above.1).1)),
       λ above. (omega (arith, above.0.0, above.1.0), rest.1 (above.0.1, above.1.1)),
     )
