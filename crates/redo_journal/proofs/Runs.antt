@@ -1,7 +1,7 @@
 -- The runs of device calls that a commit and a settling make.
-use Rattle.std.proofs.Common.{◌≡◌, inl, ℕ, suc, ◌+◌, ◌*◌, ◌<◌, ◌≤◌, ◌==◌, Bool, true, false, List, [], ◌∷◌, ◌++◌, length, refl, ap, sym, ◌∙◌, subst, arith}
+use Rattle.std.proofs.Common.{◌≡◌, ◌⊎◌, inl, inr, ⊎_elim, ℕ, suc, ◌+◌, ◌*◌, ◌<◌, ◌≤◌, ◌==◌, Bool, true, false, List, [], ◌∷◌, ◌++◌, length, refl, ap, sym, ◌∙◌, subst, arith}
 use Rattle.std.specs.Map.{keys_of}
-use Rattle.spb_edge.specs.Crash.{Torn, Within, Elapses, LeavesOnly}
+use Rattle.spb_edge.specs.Crash.{Torn, Only, Within, Elapses, LeavesOnly}
 use Rattle.spb_edge.specs.Disk.{laid}
 use Rattle.spb_edge.specs.Moments.{started, goes_on, weaker, joined}
 use Rattle.spb_edge.specs.Quiet.{IsQuiet, calmly}
@@ -91,13 +91,18 @@ commits total es old written new least size body is =
           opened_home total es written new marks home then.0 then.1 body.is_written gate.0 opened;
     }
 
--- a sync and then reads: what a crash may leave is what it might have left before
-pub read_so_far : {D : Type 0} (told tells_crashes : D → Bool) (size_of : D → ℕ) (image : D → List ℕ) (may_leave : D → List ℕ → Type 0) (moment : D → ℕ)
-    (left_since : D → ℕ → List ℕ → Type 0) (start synced found : D) (P : List ℕ → Type 0) → ((c : List ℕ) → may_leave start c → P c)
-    → Within (may_leave start) (left_since start (moment start))
-    → Elapses (moment start) (moment synced) (left_since start) (left_since synced) (may_leave synced) → Within (may_leave start) (may_leave synced)
-    → IsQuiet told tells_crashes size_of image may_leave moment left_since synced found → LeavesOnly moment left_since start found P
-read_so_far told tells_crashes size_of image may_leave moment left_since start synced found P has only_now time within quiet =
-    calmly told tells_crashes size_of image may_leave moment left_since start synced found P
-    (goes_on moment left_since start start synced P (may_leave synced) (started moment left_since start P (λ c left. has c (only_now c left))) time (λ c now. has c (within c now)))
-    quiet (λ c now. has c (within c now))
+-- a run, and then another
+pub recovered : {D : Type 0} (moment : D → ℕ) (left_since : D → ℕ → List ℕ → Type 0) (start found now : D) (P Q : List ℕ → Type 0)
+    → LeavesOnly moment left_since start found P → LeavesOnly moment left_since found now Q → LeavesOnly moment left_since start now (λ c. P c ⊎ Q c)
+recovered moment left_since start found now P Q before after =
+    joined moment left_since start found now (λ c. P c ⊎ Q c)
+    (weaker moment left_since start found P (λ c. P c ⊎ Q c) (λ c has. inl has) before)
+    (weaker moment left_since found now Q (λ c. P c ⊎ Q c) (λ c has. inr has) after)
+
+-- where nothing was pending, what might have been left has the home too
+pub stood : {D : Type 0} (moment : D → ℕ) (left_since : D → ℕ → List ℕ → Type 0) (start now : D) (total : ℕ) (image : List ℕ) (may_leave : List ℕ → Type 0) (marks : List ℕ) (home : ℕ → List ℕ)
+    → Only image may_leave → HasHome total image marks home → LeavesOnly moment left_since start now (λ c. may_leave c ⊎ HasHome total c marks home)
+    → LeavesOnly moment left_since start now (λ c. HasHome total c marks home)
+stood moment left_since start now total image may_leave marks home only stands run =
+    weaker moment left_since start now (λ c. may_leave c ⊎ HasHome total c marks home) (λ c. HasHome total c marks home)
+    (λ c. ⊎_elim (λ left. subst (λ (i : List ℕ). HasHome total i marks home) (sym (only c left)) stands) (λ has. has)) run

@@ -1,5 +1,5 @@
 -- What stands on the disk while the pages of a change go home.
-use Rattle.std.proofs.Common.{◌≡◌, ◌⊎◌, inl, inr, ⊎_elim, ℕ, suc, ◌+◌, ◌*◌, ◌<◌, ◌≤◌, ◌==◌, ◌||◌, Bool, true, false, cond, Option, Some, List, [], ◌∷◌, ◌++◌, length, take, drop, refl, sym, ◌∙◌, ap, subst, arith}
+use Rattle.std.proofs.Common.{◌≡◌, ◌⊎◌, inl, inr, ⊎_elim, ℕ, suc, ◌+◌, ◌*◌, ◌<◌, ◌≤◌, ◌==◌, ◌||◌, Bool, true, false, cond, if◌then◌else◌, Option, Some, Result, Ok, Err, OnOk, List, [], ◌∷◌, ◌++◌, length, take, drop, slice_index, refl, sym, ◌∙◌, ap, subst, arith}
 use Rattle.std.specs.Map.{keys_of, lookup}
 use Rattle.std.proofs.lemmas.Bool.{false≢true, cases_lt}
 use Rattle.std.proofs.lemmas.Bool.Decides.{nat_tests}
@@ -11,7 +11,8 @@ use Rattle.std.proofs.lemmas.List.{length-take-le}
 use Rattle.redo_journal.specs.Pages.{page, gate}
 use Rattle.redo_journal.specs.Header.{named, IsHeader, AreHomes}
 use Rattle.redo_journal.specs.Redo.{is_open, images_from, journal_of, over, replaced_by, redo_page, HasHome, is_among, DiffersWithin}
-use Rattle.redo_journal.specs.Change.{ArePlaced, Holds, IsRedone}
+use Rattle.redo_journal.specs.declared.errors.RecoverError.{RecoverError}
+use Rattle.redo_journal.specs.Change.{ArePlaced, Holds, IsRedone, Recovers}
 use Rattle.redo_journal.proofs.Pages.{laid_page, laid_gate, torn_size, torn_page, gate_same, magic_same, byte_same}
 use Rattle.redo_journal.proofs.Home.{survives, not_among, journal_same, redo_opened, redo_closed, home_positive, home_within}
 use Rattle.redo_journal.proofs.Commit.{GateAlone, gate_torn}
@@ -101,6 +102,13 @@ pub keys-journal : (image : List ℕ) → keys_of (journal_of image) ≡ named (
 unfolding journal_of
 keys-journal image = keys-images image 5 (named (page image 4))
 
+-- each page is as redone, and the gate is closed, whatever byte it is
+pub record IsClosed (total : ℕ) (old new : List ℕ) : Type 0 where
+  pub size : length new ≡ length old
+  pub closed : is_open new ≡ false
+  pub mark_is : (k : ℕ) → k < 512 → (k ≡ 16 → ⊥) → slice_index new k ≡ slice_index old k
+  pub pages_are : (n : ℕ) → 0 < n → n < total → page new n ≡ redo_page old n
+
 -- an image with its gate open, and one that differs only within the pages of its journal
 module _ (total : ℕ) (es : List (ℕ × List ℕ)) (start now : List ℕ) (least : 85 ≤ total) (homes : AreHomes total 0 (keys_of es)) (holds : Holds es start)
     (differs : DiffersWithin total (keys_of es) start now) where
@@ -124,7 +132,7 @@ module _ (total : ℕ) (es : List (ℕ × List ℕ)) (start now : List ℕ) (lea
       ∙ sym (redo_opened start n holds.is_opened)
 
   -- with the gate closed behind them
-  pub closed_redone : (c : List ℕ) → ArePlaced es now → GateAlone total now c → is_open c ≡ false → IsRedone total start c
+  pub closed_redone : (c : List ℕ) → ArePlaced es now → GateAlone total now c → is_open c ≡ false → IsClosed total start c
   closed_redone c placed alone closed = record {
     size = alone.size ∙ differs.size;
     closed = closed;
@@ -132,9 +140,36 @@ module _ (total : ℕ) (es : List (ℕ × List ℕ)) (start now : List ℕ) (lea
     pages_are = λ n pos lt. alone.pages_are n pos lt ∙ placed_redone placed n lt;
   }
 
+  -- which is 0
+  pub gate_redone : (c : List ℕ) → ArePlaced es now → GateAlone total now c → gate c ≡ 0 → IsRedone total start c
+  gate_redone c placed alone is =
+      let closed = closed_redone c placed alone (ap (λ g. g == 1) is) in record {
+        size = closed.size;
+        gate_is = is ∙ sym (ap (λ b. if b then 0 else gate start) holds.is_opened);
+        mark_is = closed.mark_is;
+        pages_are = closed.pages_are;
+      }
+
+-- an image whose gate was closed, and is the same
+pub closed_same : (total : ℕ) (image : List ℕ) → is_open image ≡ false → IsRedone total image image
+closed_same total image closed = record {
+  size = refl;
+  gate_is = sym (ap (λ b. if b then 0 else gate image) closed);
+  mark_is = λ k lt other. refl;
+  pages_are = λ n pos lt. sym (redo_closed image n closed);
+}
+
+-- a recovery leaves a closed gate
+pub redone_closed : (total : ℕ) (old new : List ℕ) → IsRedone total old new → is_open new ≡ false
+redone_closed total old new redone = either (is_open old) refl
+  where
+    either : (b : Bool) → is_open old ≡ b → is_open new ≡ false
+    either true opened = ap (λ g. g == 1) (redone.gate_is ∙ ap (λ b. if b then 0 else gate old) opened)
+    either false closed = ap (λ g. g == 1) (redone.gate_is ∙ ap (λ b. if b then 0 else gate old) closed) ∙ closed
+
 -- an image as the recovery leaves it stands for the same
-pub redone_home : (total : ℕ) (old new marks : List ℕ) (home : ℕ → List ℕ) → IsRedone total old new → HasHome total old marks home → HasHome total new marks home
-redone_home total old new marks home redone stands = record {
+closed_stands : (total : ℕ) (old new marks : List ℕ) (home : ℕ → List ℕ) → IsClosed total old new → HasHome total old marks home → HasHome total new marks home
+closed_stands total old new marks home redone stands = record {
   least = stands.least;
   size = redone.size ∙ stands.size;
   clean = λ opened. absurd (false≢true (sym redone.closed ∙ opened));
@@ -143,6 +178,20 @@ redone_home total old new marks home redone stands = record {
       ∙ stands.marks_are;
   pages_are = λ n is. redo_closed new n redone.closed ∙ redone.pages_are n (home_positive total n is) (home_within total n stands.least is) ∙ stands.pages_are n is;
 }
+
+pub redone_home : (total : ℕ) (old new marks : List ℕ) (home : ℕ → List ℕ) → IsRedone total old new → HasHome total old marks home → HasHome total new marks home
+redone_home total old new marks home redone stands =
+    closed_stands total old new marks home (record { size = redone.size; closed = redone_closed total old new redone; mark_is = redone.mark_is; pages_are = redone.pages_are }) stands
+
+-- the same of an answer
+pub recovers_home : (total : ℕ) (result : Result Unit RecoverError) (old new marks : List ℕ) (home : ℕ → List ℕ) → Recovers total result old new → HasHome total old marks home
+    → OnOk result (HasHome total new marks home)
+recovers_home total (Ok u) old new marks home recovers stands = redone_home total old new marks home recovers.1 stands
+recovers_home total (Err e) old new marks home recovers stands = tt
+
+pub recovers_closed : (total : ℕ) (result : Result Unit RecoverError) (old new : List ℕ) → Recovers total result old new → OnOk result (is_open new ≡ false)
+recovers_closed total (Ok u) old new recovers = redone_closed total old new recovers.1
+recovers_closed total (Err e) old new recovers = tt
 
 -- while the gate is open, the rest of the mark page is no matter
 open_alike : (total : ℕ) (now c marks : List ℕ) (home : ℕ → List ℕ) → GateAlone total now c → is_open now ≡ true → is_open c ≡ true → HasHome total now marks home → HasHome total c marks home
@@ -167,7 +216,7 @@ pub gate_closes : (total : ℕ) (es : List (ℕ × List ℕ)) (start now c marks
 gate_closes total es start now c marks home homes holds differs placed alone stands = either (is_open c) refl
   where
     either : (b : Bool) → is_open c ≡ b → HasHome total c marks home
-    either false closed = redone_home total start c marks home (closed_redone total es start now stands.least homes holds differs c placed alone closed) stands
+    either false closed = closed_stands total start c marks home (closed_redone total es start now stands.least homes holds differs c placed alone closed) stands
     either true opened =
         open_alike total now c marks home alone (still_open total es start now stands.least homes holds differs) opened (differs_home total es start now stands.least homes holds differs marks home stands)
 

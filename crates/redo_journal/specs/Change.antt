@@ -1,5 +1,5 @@
 -- A change on its way: the pages that are staged, and how they stand in the journal.
-use Rattle.std.specs.Prelude.{◌≡◌, ◌⊎◌, ℕ, ◌+◌, ◌*◌, ◌<◌, ◌≤◌, Bool, true, false, IsTrue, List, [], ◌∷◌, length, take, drop, slice_index, ◌==◌, None, IsSome, Result, Ok, Err}
+use Rattle.std.specs.Prelude.{◌≡◌, ◌⊎◌, ℕ, ◌+◌, ◌*◌, ◌<◌, ◌≤◌, Bool, true, false, IsTrue, if◌then◌else◌, List, [], ◌∷◌, length, take, drop, slice_index, ◌==◌, None, IsSome, Result, Ok, Err}
 use Rattle.std.specs.List.{flat_map}
 use Rattle.std.specs.Map.{lookup, keys_of}
 use Rattle.std.specs.BTreeMap.{insert_entry}
@@ -8,7 +8,7 @@ use Rattle.spb_edge.specs.Fault.{Rose}
 use Rattle.redo_journal.specs.declared.errors.StageError.{StageError}
 use Rattle.redo_journal.specs.declared.errors.RecoverError.{RecoverError}
 use Rattle.redo_journal.specs.declared.errors.RecoverError.TheVariants as recover
-use Rattle.redo_journal.specs.Pages.{page}
+use Rattle.redo_journal.specs.Pages.{page, gate}
 use Rattle.redo_journal.specs.Header.{header_page, AreHomes, IsHeader, IsFirstBad}
 use Rattle.redo_journal.specs.Redo.{is_open, journal_of, redo_page, HasHome, over}
 
@@ -80,11 +80,11 @@ abbrev pub ArePlaced : List (ℕ × List ℕ) → List ℕ → Type 0
 ArePlaced [] image = Unit {0}
 ArePlaced (e ∷ es) image = (page image e.0 ≡ e.1) × ArePlaced es image
 
--- the image as a recovery leaves it: each page as redone, and of the mark page the gate alone is
--- another, which is closed
+-- the image as a recovery leaves it: an open gate is 0, the rest of the mark page is the same, and each
+-- other page is as redone
 pub record IsRedone (total : ℕ) (old new : List ℕ) : Type 0 where
   pub size : length new ≡ length old
-  pub closed : is_open new ≡ false
+  pub gate_is : gate new ≡ (if is_open old then 0 else gate old)
   pub mark_is : (k : ℕ) → k < 512 → (k ≡ 16 → ⊥) → slice_index new k ≡ slice_index old k
   pub pages_are : (n : ℕ) → 0 < n → n < total → page new n ≡ redo_page old n
 
@@ -113,6 +113,12 @@ abbrev pub Recovers : ℕ → Result Unit RecoverError → List ℕ → List ℕ
 Recovers total (Ok _) old new = (IsTrue (is_open old) → IsHeader total (page old 4)) × IsRedone total old new
 Recovers total (Err recover.DiskFault) old new = Unit {0}
 Recovers total (Err (recover.BadHeader field)) old new = (is_open old ≡ true) × IsFirstBad total (page old 4) field × (new ≡ old)
+
+-- something holds if the answer is BadHeader
+abbrev pub OnBadHeader : Result Unit RecoverError → Type 0 → Type 0
+OnBadHeader (Ok _) P = Unit {0}
+OnBadHeader (Err recover.DiskFault) P = Unit {0}
+OnBadHeader (Err (recover.BadHeader field)) P = P
 
 -- a fault is answered only where it was counted
 abbrev pub IsCountedFault : {A : Type 0} → Result A RecoverError → ℕ → ℕ → Type 0

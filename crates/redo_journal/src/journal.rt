@@ -1,11 +1,11 @@
 //! A journal with a gate over a disk.
-ghost use Rattle.std.specs.Prelude.{◌≡◌, ◌*◌, ◌<◌, ◌≤◌, [], List, ℕ, false, IsTrue, OnOk, IfOk, IfErr, length};
+ghost use Rattle.std.specs.Prelude.{◌≡◌, ◌⊎◌, ◌*◌, ◌<◌, ◌≤◌, [], List, ℕ, false, IsTrue, OnOk, IfOk, IfErr, length};
 ghost use Rattle.spb_edge.specs.Fault.{IsCounted, counted};
 ghost use Rattle.spb_edge.specs.Crash.{Only, LeavesOnly};
-ghost use Rattle.redo_journal.specs.Pages.{page, IsHome};
+ghost use Rattle.redo_journal.specs.Pages.{page, gate, IsHome};
 ghost use Rattle.redo_journal.specs.Header.{named};
 ghost use Rattle.redo_journal.specs.Redo.{is_open, HasHome, DiffersWithin};
-ghost use Rattle.redo_journal.specs.Change.{Stages, Holds, Commits, IsLeftBy, IsRedone, Recovers, IsCountedFault};
+ghost use Rattle.redo_journal.specs.Change.{Stages, Holds, Commits, IsLeftBy, IsRedone, Recovers, OnBadHeader, IsCountedFault};
 
 use crate::header::PAGE;
 use crate::moves::{commit_staged, settle_staged};
@@ -98,12 +98,20 @@ impl<'a, D: Disk> Journal<'a, D> {
         requires none { staged_of self.old ≡ [] }
         ensures recovers { IsTrue (D.told (disk_of self.old))
             → Recovers (total_of self.old) result (D.image (disk_of self.old)) (D.image (disk_of self.new)) }
+        ensures home { IsTrue (D.told (disk_of self.old)) → (marks : List ℕ) (home : ℕ → List ℕ)
+            → HasHome (total_of self.old) (D.image (disk_of self.old)) marks home → OnOk result (HasHome (total_of self.old) (D.image (disk_of self.new)) marks home) }
+        ensures closed { IsTrue (D.told (disk_of self.old)) → OnOk result (is_open (D.image (disk_of self.new)) ≡ false) }
+        ensures any_start { IsTrue (D.told (disk_of self.old)) → IsTrue (D.tells_crashes (disk_of self.old))
+            → (marks : List ℕ) (home : ℕ → List ℕ) → HasHome (total_of self.old) (D.image (disk_of self.old)) marks home
+            → LeavesOnly D.moment D.left_since (disk_of self.old) (disk_of self.new)
+            (λ c. D.may_leave (disk_of self.old) c ⊎ HasHome (total_of self.old) c marks home) }
         ensures any_moment { IsTrue (D.told (disk_of self.old)) → IsTrue (D.tells_crashes (disk_of self.old))
             → Only (D.image (disk_of self.old)) (D.may_leave (disk_of self.old)) → (marks : List ℕ) (home : ℕ → List ℕ)
             → HasHome (total_of self.old) (D.image (disk_of self.old)) marks home
             → LeavesOnly D.moment D.left_since (disk_of self.old) (disk_of self.new) (λ c. HasHome (total_of self.old) c marks home) }
         ensures kept { IsTrue (D.told (disk_of self.old)) → IsTrue (D.tells_crashes (disk_of self.old))
             → OnOk result (Only (D.image (disk_of self.new)) (D.may_leave (disk_of self.new))) }
+        ensures unwritten { OnBadHeader result (LeavesOnly D.moment D.left_since (disk_of self.old) (disk_of self.new) (D.may_leave (disk_of self.old))) }
         ensures cleared { OnOk result (staged_of self.new ≡ []) }
         ensures pages { HasPages D.size_of self.new }
         ensures total { total_of self.new ≡ total_of self.old }
@@ -194,6 +202,7 @@ impl<'a, D: Disk> Journal<'a, D> {
             → OnOk result (IsRedone (total_of self.old) (D.image (disk_of self.old)) (D.image (disk_of self.new))) }
         ensures home { IsTrue (D.told (disk_of self.old)) → Holds (staged_of self.old) (D.image (disk_of self.old)) → (marks : List ℕ) (home : ℕ → List ℕ)
             → HasHome (total_of self.old) (D.image (disk_of self.old)) marks home → OnOk result (HasHome (total_of self.old) (D.image (disk_of self.new)) marks home) }
+        ensures closed { IsTrue (D.told (disk_of self.old)) → OnOk result (gate (D.image (disk_of self.new)) ≡ 0) }
         ensures any_moment { IsTrue (D.told (disk_of self.old)) → IsTrue (D.tells_crashes (disk_of self.old))
             → Only (D.image (disk_of self.old)) (D.may_leave (disk_of self.old)) → Holds (staged_of self.old) (D.image (disk_of self.old))
             → (marks : List ℕ) (home : ℕ → List ℕ) → HasHome (total_of self.old) (D.image (disk_of self.old)) marks home

@@ -4,7 +4,7 @@ ghost use Rattle.std.specs.Map.{keys_of};
 ghost use Rattle.spb_edge.specs.Fault.{IsCounted};
 ghost use Rattle.spb_edge.specs.Disk.{laid};
 ghost use Rattle.spb_edge.specs.Crash.{Only, Elapses, LeavesOnly};
-ghost use Rattle.redo_journal.specs.Pages.{page};
+ghost use Rattle.redo_journal.specs.Pages.{page, gate};
 ghost use Rattle.redo_journal.specs.Header.{AreHomes};
 ghost use Rattle.redo_journal.specs.Redo.{is_open, over, HasHome, is_among, DiffersWithin};
 ghost use Rattle.redo_journal.specs.Change.{Holds, ArePlaced, IsRedone, Commits, IsLeftBy};
@@ -88,6 +88,7 @@ pub(crate) fn settle_staged<D: Disk>(disk: &mut D, staged: &mut Staged) -> Resul
     requires size { D.size_of disk.old ≡ 512 * staged.old.total }
     requires least { 85 ≤ staged.old.total }
     ensures settles { IsTrue (D.told disk.old) → Holds staged.old.pages (D.image disk.old) → OnOk result (IsRedone staged.old.total (D.image disk.old) (D.image disk.new)) }
+    ensures closed { IsTrue (D.told disk.old) → OnOk result (gate (D.image disk.new) ≡ 0) }
     ensures any_moment { IsTrue (D.told disk.old) → IsTrue (D.tells_crashes disk.old) → Only (D.image disk.old) (D.may_leave disk.old) → Holds staged.old.pages (D.image disk.old)
         → (marks : List ℕ) (home : ℕ → List ℕ) → HasHome staged.old.total (D.image disk.old) marks home
         → LeavesOnly D.moment D.left_since disk.old disk.new (λ c. HasHome staged.old.total c marks home) }

@@ -1,10 +1,10 @@
 //! Reading what the journal holds, and finishing it.
-ghost use Rattle.std.specs.Prelude.{◌≡◌, ◌+◌, ◌*◌, ◌<◌, ◌≤◌, [], List, ℕ, false, IsTrue, OnOk, IfOk, length};
+ghost use Rattle.std.specs.Prelude.{◌≡◌, ◌⊎◌, ◌+◌, ◌*◌, ◌<◌, ◌≤◌, [], List, ℕ, false, IsTrue, OnOk, IfOk, length};
 ghost use Rattle.spb_edge.specs.Fault.{IsCounted, counted};
 ghost use Rattle.spb_edge.specs.Crash.{Only, LeavesOnly};
 ghost use Rattle.redo_journal.specs.Pages.{page};
 ghost use Rattle.redo_journal.specs.Redo.{is_open, HasHome};
-ghost use Rattle.redo_journal.specs.Change.{Finds, Recovers, IsCountedFault};
+ghost use Rattle.redo_journal.specs.Change.{Finds, Recovers, OnBadHeader, IsCountedFault};
 
 use crate::device::{read_piece, sync_all};
 use crate::header::{PAGE, read_header};
@@ -73,15 +73,38 @@ fn find_change<D: Disk>(disk: &mut D, staged: &mut Staged) -> Result<bool, Recov
     }
 }
 
+/// Has the disk keep what was written, and stages the change that the journal holds; whether it holds
+/// one.
+///
+/// Until the sync succeeds the header and the images may be lost in a crash, though they read as they
+/// should. So no page may go home before it.
+fn find_kept_change<D: Disk>(disk: &mut D, staged: &mut Staged) -> Result<bool, RecoverError>
+    requires none { staged.old.pages ≡ [] }
+    requires size { 43520 ≤ D.size_of disk.old }
+    ensures finds { IsTrue (D.told disk.old) → Finds staged.old.total result (D.image disk.old) staged.new.pages }
+    ensures none { IfOk result (λ found. found ≡ false → staged.new.pages ≡ []) }
+    ensures total { staged.new.total ≡ staged.old.total }
+    ensures any_moment { LeavesOnly D.moment D.left_since disk.old disk.new (D.may_leave disk.old) }
+    ensures kept { IsTrue (D.told disk.old) → IsTrue (D.tells_crashes disk.old) → OnOk result (Only (D.image disk.new) (D.may_leave disk.new)) }
+    ensures image { IsTrue (D.told disk.old) → D.image disk.new ≡ D.image disk.old }
+    ensures told { (D.told disk.new ≡ D.told disk.old) × (D.tells_crashes disk.new ≡ D.tells_crashes disk.old) }
+    ensures same_size { D.size_of disk.new ≡ D.size_of disk.old }
+    ensures fault { IsCountedFault result (D.faults disk.old) (D.faults disk.new) }
+{
+    sync_all(disk)?;
+    find_change(disk, staged)
+}
+
 /// Finishes the change that the journal holds, if it holds one.
 pub(crate) fn recover_staged<D: Disk>(disk: &mut D, staged: &mut Staged) -> Result<(), RecoverError>
     requires none { staged.old.pages ≡ [] }
     requires size { D.size_of disk.old ≡ 512 * staged.old.total }
     requires least { 85 ≤ staged.old.total }
     ensures recovers { IsTrue (D.told disk.old) → Recovers staged.old.total result (D.image disk.old) (D.image disk.new) }
-    ensures any_moment { IsTrue (D.told disk.old) → IsTrue (D.tells_crashes disk.old) → Only (D.image disk.old) (D.may_leave disk.old)
+    ensures any_start { IsTrue (D.told disk.old) → IsTrue (D.tells_crashes disk.old)
         → (marks : List ℕ) (home : ℕ → List ℕ) → HasHome staged.old.total (D.image disk.old) marks home
-        → LeavesOnly D.moment D.left_since disk.old disk.new (λ c. HasHome staged.old.total c marks home) }
+        → LeavesOnly D.moment D.left_since disk.old disk.new (λ c. D.may_leave disk.old c ⊎ HasHome staged.old.total c marks home) }
+    ensures unwritten { OnBadHeader result (LeavesOnly D.moment D.left_since disk.old disk.new (D.may_leave disk.old)) }
     ensures kept { IsTrue (D.told disk.old) → IsTrue (D.tells_crashes disk.old) → OnOk result (Only (D.image disk.new) (D.may_leave disk.new)) }
     ensures cleared { OnOk result (staged.new.pages ≡ []) }
     ensures total { staged.new.total ≡ staged.old.total }
@@ -89,8 +112,7 @@ pub(crate) fn recover_staged<D: Disk>(disk: &mut D, staged: &mut Staged) -> Resu
     ensures same_size { D.size_of disk.new ≡ D.size_of disk.old }
     ensures fault { IsCountedFault result (D.faults disk.old) (D.faults disk.new) }
 {
-    sync_all(disk)?;
-    if find_change(disk, staged)? {
+    if find_kept_change(disk, staged)? {
         settle_staged(disk, staged)?;
     }
     Ok(())

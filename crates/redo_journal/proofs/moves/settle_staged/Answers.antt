@@ -1,10 +1,10 @@
-use Rattle.std.proofs.Common.{◌==◌, IsTrue, subst, sym, ◌∙◌, ap}
+use Rattle.std.proofs.Common.{IsTrue, subst, sym, ◌∙◌, ap}
 use Rattle.std.specs.Map.{keys_of}
 use Rattle.spb_edge.specs.Moments.{weaker}
 use Rattle.redo_journal.specs.Redo.{DiffersWithin}
 use Rattle.redo_journal.specs.Change.{ArePlaced}
 use Rattle.redo_journal.proofs.Runs.{settled_so_far, settled}
-use Rattle.redo_journal.proofs.Settle.{differs_home, gate_laid, closed_redone}
+use Rattle.redo_journal.proofs.Settle.{differs_home, gate_laid, gate_redone}
 use Rattle.redo_journal.proofs.moves.settle_staged.Goals as goal
 
 pub returns-in_err-write_all_home-clause-any_moment : goal.returns-in_err-write_all_home-clause-any_moment
@@ -54,7 +54,14 @@ returns-clause-settles g c = λ tells holds.
     let same = c.sync_all.ensures.image tells_then in
     let long = sym (g.met.D.Disk.length_is c.sync_all.new.disk tells_now) ∙ c.sync_all.ensures.size ∙ c.write_all_home.ensures.same_size ∙ c.requires.size in
     let gate = gate_laid c.args.staged.now.total 0 (g.D.Disk.image c.sync_all.new.disk) (g.D.Disk.image c.write_and_keep.new.disk) c.requires.least long (c.in_ok-write_and_keep.ensures.image tells_now) in
-    closed_redone c.args.staged.now.total c.args.staged.now.pages (g.D.Disk.image c.args.disk.now) (g.D.Disk.image c.sync_all.new.disk) c.requires.least c.write_all_home.ensures.homes holds
+    gate_redone c.args.staged.now.total c.args.staged.now.pages (g.D.Disk.image c.args.disk.now) (g.D.Disk.image c.sync_all.new.disk) c.requires.least c.write_all_home.ensures.homes holds
     (subst (DiffersWithin c.args.staged.now.total (keys_of c.args.staged.now.pages) (g.D.Disk.image c.args.disk.now)) (sym same) (c.in_ok-write_all_home.ensures.differs tells))
     (g.D.Disk.image c.write_and_keep.new.disk)
-    (subst (ArePlaced c.args.staged.now.pages) (sym same) (c.in_ok-write_all_home.ensures.placed tells)) gate.0 (ap (λ b. b == 1) gate.1)
+    (subst (ArePlaced c.args.staged.now.pages) (sym same) (c.in_ok-write_all_home.ensures.placed tells)) gate.0 gate.1
+
+pub returns-clause-closed : goal.returns-clause-closed
+returns-clause-closed g c = λ tells.
+    let tells_then : IsTrue (g.D.Disk.told c.write_all_home.new.disk) = subst IsTrue (sym c.write_all_home.ensures.told.0) tells in
+    let tells_now : IsTrue (g.D.Disk.told c.sync_all.new.disk) = subst IsTrue (sym c.sync_all.ensures.told.0) tells_then in
+    let long = sym (g.met.D.Disk.length_is c.sync_all.new.disk tells_now) ∙ c.sync_all.ensures.size ∙ c.write_all_home.ensures.same_size ∙ c.requires.size in
+    (gate_laid c.args.staged.now.total 0 (g.D.Disk.image c.sync_all.new.disk) (g.D.Disk.image c.write_and_keep.new.disk) c.requires.least long (c.in_ok-write_and_keep.ensures.image tells_now)).1
