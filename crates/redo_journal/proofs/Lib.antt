@@ -6,3 +6,4 @@ pub mod Commit
 pub mod Settle
 pub mod Runs
 pub mod Load
+pub mod Staging

@@ -150,11 +150,15 @@ is_at place es now n m page other same number pages is =
     (is ∙ ap (λ e. take place es ++ (e, page) ∷ drop (place + 1) es) (sym number) ∙ ap (λ p. take place es ++ (m, p) ∷ drop (place + 1) es) (sym pages))
 
 -- a number that isn't there
-pub absent : (n : ℕ) (ns bytes : List ℕ) → ((k : ℕ) → k < length ns → get_or ns k 0 ≡ n → ⊥) → lookup (λ m. m == n) (paired 512 ns bytes) ≡ None
+absent : (n : ℕ) (ns bytes : List ℕ) → ((k : ℕ) → k < length ns → get_or ns k 0 ≡ n → ⊥) → lookup (λ m. m == n) (paired 512 ns bytes) ≡ None
 absent n [] bytes none = refl
 absent n (m ∷ ns) bytes none =
     ap (λ b. cond b (Some (take 512 bytes)) (lookup (λ k. k == n) (paired 512 ns (drop 512 bytes)))) (not_equal m n (none 0 (omega arith)))
     ∙ absent n ns (drop 512 bytes) (λ k lt. none (suc k) (omega (arith, lt)))
+
+pub absent_between : (n place : ℕ) (ns bytes : List ℕ) → IsBetween ns n place → lookup (λ m. m == n) (paired 512 ns bytes) ≡ None
+absent_between n place ns bytes between =
+    absent n ns bytes (λ k lt is. ⊎_elim (λ l. omega (arith, between.1 k l, is)) (λ l. omega (arith, between.2 k l lt, is)) (cases_lt k place))
 
 -- one that is
 pub present : (n place : ℕ) (ns bytes : List ℕ) → place < length ns → get_or ns place 0 ≡ n → IsSome (lookup (λ m. m == n) (paired 512 ns bytes))
@@ -221,7 +225,7 @@ module _ (total capacity n place : ℕ) (numbers body page : List ℕ) (staged :
   pub stage_refuses : IsBetween numbers n place → length numbers ≡ 80 → (length (paired 512 numbers (drop 512 body)) ≡ 80) × (lookup (λ m. m == n) (paired 512 numbers (drop 512 body)) ≡ None)
   stage_refuses between full = (
     length-paired 512 numbers (drop 512 body) ∙ full,
-    absent n numbers (drop 512 body) (λ k lt is. ⊎_elim (λ l. omega (arith, between.1 k l, is)) (λ l. omega (arith, between.2 k l lt, is)) (cases_lt k place)),
+    absent_between n place numbers (drop 512 body) between,
   )
 
   pub joins_staged : (later : ℕ) → IsHome total n → IsBetween numbers n place → length numbers < 80 → capacity ≤ later

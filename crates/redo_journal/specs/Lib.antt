@@ -3,3 +3,5 @@ pub mod Header
 pub mod Redo
 pub mod Change
 pub mod Journal
+pub mod Growth
+pub mod Staging

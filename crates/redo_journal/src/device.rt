@@ -1,14 +1,18 @@
-//! Writes within a disk's size, and syncs.
+//! Single steps over a disk, whose contracts say what they leave if the machine stops.
+//!
+//! All but [`grow_piece`] stay within the disk's size, and so take no memory.
 ghost use Rattle.std.specs.Prelude.{◌≡◌, ◌≤◌, ◌+◌, IsTrue, OnOk, length, take, drop};
 ghost use Rattle.spb_edge.specs.Fault.{IsCounted, counted};
 ghost use Rattle.spb_edge.specs.Disk.{laid};
 ghost use Rattle.spb_edge.specs.Crash.{Torn, Follows, Within, Only, Elapses, LeavesOnly};
+ghost use Rattle.redo_journal.specs.Growth.{Lays, GrowsTo, IsCountedGrowth};
 
-use crate::DiskFault;
+use crate::{DiskFault, GrowError};
 use spb_edge::{Disk, DiskError};
 
-/// Lays bytes over the disk within its size, so that no memory is wanted. One device call.
-pub(crate) fn write_piece<D: Disk>(disk: &mut D, at: u64, bytes: &[u8]) -> Result<(), DiskFault>
+/// Lays bytes over the disk from `at` on, within its size. Until a sync succeeds, a crash may leave any
+/// bytes in this range. `DiskFault` comes only if the disk counted a fault in this call. One device call.
+pub fn write_piece<D: Disk>(disk: &mut D, at: u64, bytes: &[u8]) -> Result<(), DiskFault>
     requires { at + length bytes.now ≤ D.size_of disk.old }
     ensures image { IsTrue (D.told disk.old) → OnOk result (D.image disk.new ≡ laid (D.image disk.old) at bytes.now) }
     ensures told { (D.told disk.new ≡ D.told disk.old) × (D.tells_crashes disk.new ≡ D.tells_crashes disk.old) }
@@ -25,8 +29,9 @@ pub(crate) fn write_piece<D: Disk>(disk: &mut D, at: u64, bytes: &[u8]) -> Resul
     }
 }
 
-/// Fills `into` with the bytes from `at` on, which lie within the disk's size. One device call.
-pub(crate) fn read_piece<D: Disk>(disk: &mut D, at: u64, into: &mut [u8]) -> Result<(), DiskFault>
+/// Fills `into` with the bytes from `at` on, which lie within the disk's size. `DiskFault` comes only if
+/// the disk counted a fault in this call. One device call.
+pub fn read_piece<D: Disk>(disk: &mut D, at: u64, into: &mut [u8]) -> Result<(), DiskFault>
     requires { at + length into.old ≤ D.size_of disk.old }
     ensures data { IsTrue (D.told disk.old) → OnOk result (into.new ≡ take (length into.old) (drop at (D.image disk.old))) }
     ensures filled { length into.new ≡ length into.old }
@@ -44,8 +49,9 @@ pub(crate) fn read_piece<D: Disk>(disk: &mut D, at: u64, into: &mut [u8]) -> Res
     }
 }
 
-/// Asks that what was written be kept. One device call.
-pub(crate) fn sync_all<D: Disk>(disk: &mut D) -> Result<(), DiskFault>
+/// Asks that what was written be kept: after Ok a crash leaves the image as it reads. `DiskFault` comes
+/// only if the disk counted a fault in this call. One device call.
+pub fn sync_all<D: Disk>(disk: &mut D) -> Result<(), DiskFault>
     ensures kept { IsTrue (D.told disk.old) → IsTrue (D.tells_crashes disk.old) → OnOk result (Only (D.image disk.new) (D.may_leave disk.new)) }
     ensures image { IsTrue (D.told disk.old) → D.image disk.new ≡ D.image disk.old }
     ensures told { (D.told disk.new ≡ D.told disk.old) × (D.tells_crashes disk.new ≡ D.tells_crashes disk.old) }
@@ -62,11 +68,12 @@ pub(crate) fn sync_all<D: Disk>(disk: &mut D) -> Result<(), DiskFault>
     }
 }
 
-/// Lays bytes over the disk within its size, and has them kept: a write and a sync.
+/// Lays bytes over the disk from `at` on, within its size, and has them kept: a write and a sync.
 ///
-/// Where nothing was pending, a crash on the way leaves the image as it was but for the bytes of this
-/// write, and after Ok nothing is pending.
-pub(crate) fn write_and_keep<D: Disk>(disk: &mut D, at: u64, bytes: &[u8]) -> Result<(), DiskFault>
+/// If nothing was pending, a crash on the way leaves the image as it was but for the bytes of this write.
+/// After Ok nothing is pending. `DiskFault` comes only if the disk counted a fault in this call. At most
+/// two device calls.
+pub fn write_and_keep<D: Disk>(disk: &mut D, at: u64, bytes: &[u8]) -> Result<(), DiskFault>
     requires { at + length bytes.now ≤ D.size_of disk.old }
     ensures image { IsTrue (D.told disk.old) → OnOk result (D.image disk.new ≡ laid (D.image disk.old) at bytes.now) }
     ensures kept { IsTrue (D.told disk.old) → IsTrue (D.tells_crashes disk.old) → OnOk result (Only (D.image disk.new) (D.may_leave disk.new)) }
@@ -79,4 +86,26 @@ pub(crate) fn write_and_keep<D: Disk>(disk: &mut D, at: u64, bytes: &[u8]) -> Re
 {
     write_piece(disk, at, bytes)?;
     sync_all(disk)
+}
+
+/// Lays bytes over the disk from `at` on, at most its end, and so may make it longer. Until a sync
+/// succeeds, a crash may leave any bytes in this range and any part of the growth.
+///
+/// `DiskFault` comes only if the disk counted a fault in this call, `Memory` only if the bytes reach past
+/// the disk's end. One device call.
+pub fn grow_piece<D: Disk>(disk: &mut D, at: u64, bytes: &[u8]) -> Result<(), GrowError>
+    requires { at ≤ D.size_of disk.old }
+    ensures image { IsTrue (D.told disk.old) → Lays result at bytes.now (D.image disk.old) (D.image disk.new) }
+    ensures told { (D.told disk.new ≡ D.told disk.old) × (D.tells_crashes disk.new ≡ D.tells_crashes disk.old) }
+    ensures size { GrowsTo result (D.size_of disk.old) (at + length bytes.now) (D.size_of disk.new) }
+    ensures crash { Follows (Torn at (length bytes.now)) (D.may_leave disk.old) (D.may_leave disk.new) }
+    ensures time { Elapses (D.moment disk.old) (D.moment disk.new) (D.left_since disk.old) (D.left_since disk.new) (D.may_leave disk.new) }
+    ensures reads { IsTrue (D.told disk.old) → D.reads disk.new ≡ D.reads disk.old }
+    ensures fault { IsCountedGrowth result (D.size_of disk.old) (at + length bytes.now) (D.faults disk.old) (D.faults disk.new) }
+{
+    match disk.write_at(at, bytes) {
+        Ok(()) => Ok(()),
+        Err(DiskError::Failed) => Err(GrowError::DiskFault),
+        Err(DiskError::Memory) => Err(GrowError::Memory),
+    }
 }

@@ -32,6 +32,17 @@ pub enum RecoverError {
     BadHeader(Field),
 }
 
+/// Why bytes weren't laid over a disk that may grow.
+#[derive(Clone, Copy, Debug, PartialEq, Eq, Drop, Error)]
+pub enum GrowError {
+    /// The disk failed, and counted it.
+    #[error("disk fault")]
+    DiskFault,
+    /// There is no memory for the growth.
+    #[error("out of memory")]
+    Memory,
+}
+
 /// Why a page wasn't staged.
 #[derive(Clone, Copy, Debug, PartialEq, Eq, Drop, Error)]
 pub enum StageError {
@@ -48,5 +59,16 @@ impl From<DiskFault> for RecoverError {
 
     fn from(_: DiskFault) -> RecoverError {
         RecoverError::DiskFault
+    }
+}
+
+impl From<DiskFault> for GrowError {
+    ghost use Rattle.std.specs.Prelude.{◌≡◌};
+    ghost use Rattle.redo_journal.specs.declared.errors.GrowError.TheVariants as grow;
+
+    ghost from_gives = { λ _ e. e ≡ grow.DiskFault };
+
+    fn from(_: DiskFault) -> GrowError {
+        GrowError::DiskFault
     }
 }

@@ -1,11 +1,13 @@
 //! A journal with a gate over a disk.
-ghost use Rattle.std.specs.Prelude.{◌≡◌, ◌⊎◌, ◌*◌, ◌<◌, ◌≤◌, [], List, ℕ, false, IsTrue, OnOk, IfOk, IfErr, length};
+ghost use Rattle.std.specs.Prelude.{◌≡◌, ◌⊎◌, ◌*◌, ◌<◌, ◌≤◌, ◌==◌, [], List, ℕ, false, IsTrue, OnOk, IfOk, IfErr, IfSome, MatchOption, None, Some, length};
+ghost use Rattle.std.specs.Map.{lookup};
 ghost use Rattle.spb_edge.specs.Fault.{IsCounted, counted};
 ghost use Rattle.spb_edge.specs.Crash.{Only, LeavesOnly};
 ghost use Rattle.redo_journal.specs.Pages.{page, gate, IsHome};
 ghost use Rattle.redo_journal.specs.Header.{named};
 ghost use Rattle.redo_journal.specs.Redo.{is_open, HasHome, DiffersWithin};
-ghost use Rattle.redo_journal.specs.Change.{Stages, Holds, Commits, IsLeftBy, IsRedone, Recovers, OnBadHeader, IsCountedFault};
+ghost use Rattle.redo_journal.specs.Change.{with_page, Stages, Holds, Commits, IsLeftBy, IsRedone, Recovers, OnBadHeader, IsCountedFault};
+ghost use Rattle.redo_journal.specs.Staging.{JoinsOne, LaysOne};
 
 use crate::header::PAGE;
 use crate::moves::{commit_staged, settle_staged};
@@ -147,11 +149,21 @@ impl<'a, D: Disk> Journal<'a, D> {
         requires home { IsHome (total_of self.old) n }
         ensures stages { Stages result (staged_of self.old) n page.now (staged_of self.new) }
         ensures some { OnOk result (0 < length (staged_of self.new)) }
+        ensures few { length (staged_of self.new) ≤ 80 }
         ensures total { total_of self.new ≡ total_of self.old }
         ensures disk { disk_of self.new ≡ disk_of self.old }
         ensures name { self.new.disk.ghost_name ≡ self.old.disk.ghost_name }
     {
         self.staged.stage(n, page)
+    }
+
+    /// The staged page of this number, of 512 bytes, or None if there is none. No device call is made and
+    /// nothing is copied; the number is found by bisection.
+    pub fn staged_page(&self, n: u32) -> Option<&[u8]>
+        ensures page { MatchOption result (lookup (λ m. m == n) (staged_of self.now) ≡ None) (λ page. lookup (λ m. m == n) (staged_of self.now) ≡ Some page.now) }
+        ensures whole { IfSome result (λ page. length page.now ≡ 512) }
+    {
+        self.staged.page(n)
     }
 
     /// Takes out all pages that are staged. The disk stays as it is.
@@ -232,4 +244,16 @@ pub fn home_survives()
 /// An image as a recovery leaves it stands for what it stood for, as a contract. The call does nothing.
 pub fn home_is_redone()
     ensures { (total : ℕ) (old new marks : List ℕ) (home : ℕ → List ℕ) → IsRedone total old new → HasHome total old marks home → HasHome total new marks home }
+{}
+
+/// Staging a page adds at most one page to a change, and no number but its own, as a contract. The call
+/// does nothing.
+pub fn staging_joins_one()
+    ensures { (entries : List (ℕ × List ℕ)) (n : ℕ) (page : List ℕ) → JoinsOne n entries (with_page entries n page) }
+{}
+
+/// Over any pages, a staged page stands at its number and changes no other, as a contract. The call does
+/// nothing.
+pub fn staging_lays_one()
+    ensures { (entries : List (ℕ × List ℕ)) (n : ℕ) (page : List ℕ) → LaysOne n page entries (with_page entries n page) }
 {}

@@ -5,7 +5,7 @@
 //! only then do the pages go to their places. Who opens the file later finishes what the gate says.
 #![tactic(auto)]
 
-mod device;
+pub mod device;
 mod errors;
 mod header;
 mod journal;
@@ -13,8 +13,8 @@ mod moves;
 mod recovery;
 mod staged;
 
-pub use errors::{DiskFault, Field, RecoverError, StageError};
-pub use journal::{Journal, home_is_redone, home_survives};
+pub use errors::{DiskFault, Field, GrowError, RecoverError, StageError};
+pub use journal::{Journal, home_is_redone, home_survives, staging_joins_one, staging_lays_one};
 
 #[cfg(test)]
 mod tests;

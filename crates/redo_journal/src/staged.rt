@@ -1,6 +1,6 @@
 //! The pages of a change on its way to the disk.
-ghost use Rattle.std.specs.Prelude.{◌≡◌, ◌+◌, ◌*◌, ◌<◌, ◌≤◌, [], ◌∷◌, ◌++◌, IsTrue, IfOk, OnOk, MatchResult, length, take, drop, vec_len, vec_capacity};
-ghost use Rattle.std.specs.Map.{keys_of};
+ghost use Rattle.std.specs.Prelude.{◌≡◌, ◌+◌, ◌*◌, ◌<◌, ◌≤◌, ◌==◌, [], ◌∷◌, ◌++◌, IsTrue, IfOk, IfSome, OnOk, MatchOption, MatchResult, None, Some, length, take, drop, slice_index, vec_len, vec_capacity};
+ghost use Rattle.std.specs.Map.{keys_of, lookup};
 ghost use Rattle.redo_journal.specs.Pages.{IsHome};
 ghost use Rattle.spb_edge.specs.Fault.{IsCounted};
 ghost use Rattle.redo_journal.specs.Header.{AreHomes, header_page};
@@ -75,6 +75,7 @@ impl Staged {
     pub(crate) fn stage(&mut self, n: u32, page: &[u8; PAGE]) -> Result<(), StageError>
         requires { IsHome self.old.total n }
         ensures stages { Stages result self.old.pages n page.now self.new.pages }
+        ensures few { length self.new.pages ≤ 80 }
         ensures total { self.new.total ≡ self.old.total }
     {
         match place_of(self.numbers.as_slice(), n) {
@@ -90,6 +91,17 @@ impl Staged {
                 insert_page(&mut self.body, place + 1, page);
                 Ok(())
             }
+        }
+    }
+
+    /// The page of this number.
+    pub(crate) fn page(&self, n: u32) -> Option<&[u8]>
+        ensures page { MatchOption result (lookup (λ m. m == n) self.now.pages ≡ None) (λ page. lookup (λ m. m == n) self.now.pages ≡ Some page.now) }
+        ensures whole { IfSome result (λ page. length page.now ≡ 512) }
+    {
+        match place_of(self.numbers.as_slice(), n) {
+            Ok(place) => Some(self.entry(place).1),
+            Err(_) => None,
         }
     }
 
@@ -142,6 +154,7 @@ impl Staged {
     pub(crate) fn entry(&self, place: usize) -> (u32, &[u8])
         requires { place < length self.now.pages }
         ensures entry { self.now.pages ≡ take place self.now.pages ++ (result.0, result.1.now) ∷ drop (place + 1) self.now.pages }
+        ensures number { result.0 ≡ slice_index (keys_of self.now.pages) place }
         ensures home { IsHome self.now.total result.0 }
         ensures page { length result.1.now ≡ 512 }
     {

@@ -1,7 +1,8 @@
 use Rattle.std.proofs.Common.{ℕ, ◌≡◌, ◌+◌, ◌-◌, ◌*◌, rules, ◌<◌, ◌≤◌, List, length, drop, take, get_or, ap, ◌∙◌, sym, subst, arith}
 use Rattle.std.proofs.lemmas.List.{drop-drop, length-take-le, length-drop}
+use Rattle.std.specs.Map.{keys_of}
 use Rattle.redo_journal.specs.Pages.{IsHome}
-use Rattle.redo_journal.proofs.Pairs.{entry-paired, length-paired, is_at, home_at}
+use Rattle.redo_journal.proofs.Pairs.{entry-paired, keys-paired, length-paired, is_at, home_at}
 use Rattle.redo_journal.proofs.staged.Staged.entry.Goals as goal
 
 pub overflow_add-at : goal.overflow_add-at
@@ -53,6 +54,11 @@ returns-clause-entry c =
     ∙ ap (λ m. take 512 (drop m c.self.inside.body.items)) on ∙ ap (take 512) (sym (drop-drop (512 * c.args.place) 512 c.self.inside.body.items)) in
     let number : get_or c.as_slice-numbers.result.now c.args.place 0 ≡ get_or ns c.args.place 0 = ap (λ xs. get_or xs c.args.place 0) c.as_slice-numbers.ensures.value in
     is_at c.args.place _ _ _ _ _ _ (ap (λ s. s.pages) c.self.view_is) number page (entry-paired c.args.place ns images below)
+
+pub returns-clause-number : goal.returns-clause-number
+returns-clause-number c =
+    ap (λ xs. get_or xs c.args.place 0) (c.as_slice-numbers.ensures.value ∙ sym (keys-paired 512 c.self.inside.numbers.items (drop 512 c.self.inside.body.items)))
+    ∙ ap (λ s. get_or (keys_of s.pages) c.args.place 0) c.self.view_is
 
 pub returns-clause-home : goal.returns-clause-home
 returns-clause-home c =

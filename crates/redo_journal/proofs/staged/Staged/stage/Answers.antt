@@ -4,7 +4,7 @@ use Rattle.std.specs.List.{insert}
 use Rattle.std.proofs.lemmas.Grind.{common_steps}
 use Rattle.redo_journal.specs.Pages.{IsHome}
 use Rattle.redo_journal.specs.Change.{paired, Stages, IsAt, IsBetween, IsRising, IsStaged}
-use Rattle.redo_journal.proofs.Pairs.{stage_replaces, stage_joins, stage_refuses, joins_staged, rises}
+use Rattle.redo_journal.proofs.Pairs.{stage_replaces, stage_joins, stage_refuses, joins_staged, rises, length-paired, is_sound}
 use Rattle.redo_journal.proofs.staged.Staged.stage.Goals as goal
 
 pub place_of-requires : goal.place_of-requires
@@ -51,3 +51,12 @@ returns-else-is_full-clause-stages c =
     (sym c.insert.ensures.items)
     (subst (λ (xs : List ℕ). Stages (Ok tt) (paired 512 c.self.inside.numbers.items (drop 512 c.self.inside.body.items)) c.args.n c.args.page.now (paired 512 (insert c.self.inside.numbers.items c.in-Err.place c.args.n) (drop 512 xs)))
     (sym c.insert_page.ensures.items) stages))
+
+pub returns-then-is_full-clause-few : goal.returns-then-is_full-clause-few
+returns-then-is_full-clause-few c = (is_sound _ _ _ _ _ c.self.invariant c.self.view_is).few
+
+pub returns-in-Ok-clause-few : goal.returns-in-Ok-clause-few
+returns-in-Ok-clause-few c = omega (arith, c.self.invariant.few, length-paired 512 c.self.inside.numbers.items (drop 512 c.replace_page.new.pages.items))
+
+pub returns-else-is_full-clause-few : goal.returns-else-is_full-clause-few
+returns-else-is_full-clause-few c = omega (arith, (invariant_of-self-in-Err c).few, length-paired 512 c.insert.new.self.items (drop 512 c.insert_page.new.pages.items))
