@@ -42,8 +42,8 @@ finds_others [] n k page other = ap (λ b. cond b (Some page) None) (not_equal n
 finds_others (e ∷ es) n k page other = by_order n e.0 page e.1 es (λ l. lookup (λ m. m == k) l ≡ lookup (λ m. m == k) (e ∷ es))
     (λ lt. ap (λ b. cond b (Some page) (lookup (λ m. m == k) (e ∷ es))) (not_equal n k (λ is. other (sym is))))
     (λ is.
-        let apart : (e.0 == k) ≡ false = not_equal e.0 k (λ same. other (sym same ∙ sym is)) in
-        ap (λ b. cond b (Some page) (lookup (λ m. m == k) es)) apart ∙ sym (ap (λ b. cond b (Some e.1) (lookup (λ m. m == k) es)) apart))
+    let apart : (e.0 == k) ≡ false = not_equal e.0 k (λ same. other (sym same ∙ sym is)) in
+    ap (λ b. cond b (Some page) (lookup (λ m. m == k) es)) apart ∙ sym (ap (λ b. cond b (Some e.1) (lookup (λ m. m == k) es)) apart))
     (λ lt. ap (λ found. cond (e.0 == k) (Some e.1) found) (finds_others es n k page other))
 
 pub lays_one : (es : List (ℕ × List ℕ)) (n : ℕ) (page : List ℕ) → LaysOne n page es (with_page es n page)

@@ -9,6 +9,7 @@ use Rattle.redo_journal.specs.declared.errors.StageError.{StageError}
 use Rattle.redo_journal.specs.declared.errors.RecoverError.{RecoverError}
 use Rattle.redo_journal.specs.declared.errors.RecoverError.TheVariants as recover
 use Rattle.redo_journal.specs.Pages.{page, gate}
+use Rattle.redo_journal.specs.declared.layout.TheConstants.{PAGE_SIZE, CHANGE_LIMIT, GATE_AT, CLOSED_GATE, HEADER_PAGE}
 use Rattle.redo_journal.specs.Header.{header_page, AreHomes, IsHeader, IsFirstBad}
 use Rattle.redo_journal.specs.Redo.{is_open, journal_of, redo_page, HasHome, over}
 
@@ -17,10 +18,10 @@ abbrev pub paired : ℕ → List ℕ → List ℕ → List (ℕ × List ℕ)
 paired size [] bytes = []
 paired size (n ∷ ns) bytes = (n, take size bytes) ∷ paired size ns (drop size bytes)
 
--- each page has 512 bytes
+-- each page is whole
 abbrev pub ArePages : List (ℕ × List ℕ) → Type 0
 ArePages [] = Unit {0}
-ArePages (e ∷ es) = (length e.1 ≡ 512) × ArePages es
+ArePages (e ∷ es) = (length e.1 ≡ PAGE_SIZE) × ArePages es
 
 -- the images of a change, behind one another
 abbrev pub joined_images : List (ℕ × List ℕ) → List ℕ
@@ -34,9 +35,9 @@ with_page entries n page = insert_entry nat_cmp entries n page
 pub record IsStaged (total : ℕ) (numbers body : List ℕ) (capacity : ℕ) : Type 0 where
   pub small : total < 4294967296
   pub homes : AreHomes total 0 numbers
-  pub few : length numbers ≤ 80
-  pub long : length body ≡ 512 * (1 + length numbers)
-  pub room : 41472 ≤ capacity
+  pub few : length numbers ≤ CHANGE_LIMIT
+  pub long : length body ≡ PAGE_SIZE * (1 + length numbers)
+  pub room : PAGE_SIZE * (1 + CHANGE_LIMIT) ≤ capacity
 
 -- the numbers don't fall
 abbrev pub IsRising : List ℕ → Type 0
@@ -57,15 +58,16 @@ pub record StagedPages : Type 0 where
   pub header : List ℕ
   pub pages : List (ℕ × List ℕ)
 
--- A page takes the place of the one with its number, or joins the others; it is refused where 80 others
--- are staged, and nothing changes then.
+-- A page takes the place of the one with its number, or joins the others; it is refused if a change may
+-- have no further one, and nothing changes then.
 abbrev pub Stages : Result Unit StageError → List (ℕ × List ℕ) → ℕ → List ℕ → List (ℕ × List ℕ) → Type 0
-Stages (Ok _) old n page new = (new ≡ with_page old n page) × ((length old < 80) ⊎ IsSome (lookup (λ m. m == n) old))
-Stages (Err _) old n page new = (new ≡ old) × (length old ≡ 80) × (lookup (λ m. m == n) old ≡ None)
+Stages (Ok _) old n page new = (new ≡ with_page old n page) × ((length old < CHANGE_LIMIT) ⊎ IsSome (lookup (λ m. m == n) old))
+Stages (Err _) old n page new = (new ≡ old) × (length old ≡ CHANGE_LIMIT) × (lookup (λ m. m == n) old ≡ None)
 
--- what holds of every change on its way: at most 80 pages of 512 bytes, their numbers homes that rise
+-- what holds of every change on its way: as many whole pages as one may have or fewer, and their
+-- numbers are homes and rise
 pub record IsSound (staged : StagedPages) : Type 0 where
-  pub few : length staged.pages ≤ 80
+  pub few : length staged.pages ≤ CHANGE_LIMIT
   pub homes : AreHomes staged.total 0 (keys_of staged.pages)
   pub whole : ArePages staged.pages
   pub small : staged.total < 4294967296
@@ -80,19 +82,19 @@ abbrev pub ArePlaced : List (ℕ × List ℕ) → List ℕ → Type 0
 ArePlaced [] image = Unit {0}
 ArePlaced (e ∷ es) image = (page image e.0 ≡ e.1) × ArePlaced es image
 
--- the image as a recovery leaves it: an open gate is 0, the rest of the mark page is the same, and each
+-- the image as a recovery leaves it: an open gate is closed, the rest of the mark page is the same, and each
 -- other page is as redone
 pub record IsRedone (total : ℕ) (old new : List ℕ) : Type 0 where
   pub size : length new ≡ length old
-  pub gate_is : gate new ≡ (if is_open old then 0 else gate old)
-  pub mark_is : (k : ℕ) → k < 512 → (k ≡ 16 → ⊥) → slice_index new k ≡ slice_index old k
+  pub gate_is : gate new ≡ (if is_open old then CLOSED_GATE else gate old)
+  pub mark_is : (k : ℕ) → k < PAGE_SIZE → (k ≡ GATE_AT → ⊥) → slice_index new k ≡ slice_index old k
   pub pages_are : (n : ℕ) → 0 < n → n < total → page new n ≡ redo_page old n
 
 -- a commit that succeeded: the journal holds the change, and whatever the image stood for, it now
 -- stands for the pages with the change
 pub record Commits (total : ℕ) (entries : List (ℕ × List ℕ)) (old new : List ℕ) : Type 0 where
   pub holds : Holds entries new
-  pub header_is : page new 4 ≡ header_page (keys_of entries)
+  pub header_is : page new HEADER_PAGE ≡ header_page (keys_of entries)
   pub stands : (marks : List ℕ) (home : ℕ → List ℕ) → HasHome total old marks home → is_open old ≡ false → HasHome total new marks (over entries home)
 
 -- an image that stands for the pages without a change or with all of it
@@ -103,16 +105,16 @@ IsLeftBy total entries marks home image = HasHome total image marks home ⊎ Has
 -- field out of its range is named
 abbrev pub Finds : ℕ → Result Bool RecoverError → List ℕ → List (ℕ × List ℕ) → Type 0
 Finds total (Ok false) image pages = (is_open image ≡ false) × (pages ≡ [])
-Finds total (Ok true) image pages = (is_open image ≡ true) × IsHeader total (page image 4) × (pages ≡ journal_of image)
+Finds total (Ok true) image pages = (is_open image ≡ true) × IsHeader total (page image HEADER_PAGE) × (pages ≡ journal_of image)
 Finds total (Err recover.DiskFault) image pages = Unit {0}
-Finds total (Err (recover.BadHeader field)) image pages = (is_open image ≡ true) × IsFirstBad total (page image 4) field
+Finds total (Err (recover.BadHeader field)) image pages = (is_open image ≡ true) × IsFirstBad total (page image HEADER_PAGE) field
 
 -- what a recovery leaves: the image as redone, or as it was where the gate is open over a header whose
 -- first field out of its range is named
 abbrev pub Recovers : ℕ → Result Unit RecoverError → List ℕ → List ℕ → Type 0
-Recovers total (Ok _) old new = (IsTrue (is_open old) → IsHeader total (page old 4)) × IsRedone total old new
+Recovers total (Ok _) old new = (IsTrue (is_open old) → IsHeader total (page old HEADER_PAGE)) × IsRedone total old new
 Recovers total (Err recover.DiskFault) old new = Unit {0}
-Recovers total (Err (recover.BadHeader field)) old new = (is_open old ≡ true) × IsFirstBad total (page old 4) field × (new ≡ old)
+Recovers total (Err (recover.BadHeader field)) old new = (is_open old ≡ true) × IsFirstBad total (page old HEADER_PAGE) field × (new ≡ old)
 
 -- something holds if the answer is BadHeader
 abbrev pub OnBadHeader : Result Unit RecoverError → Type 0 → Type 0

@@ -3,6 +3,7 @@ use Rattle.std.specs.Prelude.{◌≡◌, ℕ, zero, suc, ◌-◌, ◌*◌, ◌<�
 use Rattle.std.specs.List.{flat_map}
 use Rattle.byteorder.specs.Endian.{big_number, big_bytes}
 use Rattle.redo_journal.specs.Pages.{IsHome}
+use Rattle.redo_journal.specs.declared.layout.TheConstants.{PAGE_SIZE, CHANGE_LIMIT, NUMBERS_AT}
 use Rattle.redo_journal.specs.declared.errors.Field.{Field}
 use Rattle.redo_journal.specs.declared.errors.Field.TheVariants.{Count, Page}
 
@@ -25,15 +26,15 @@ numbers_in (suc n) bytes = number_of bytes ∷ numbers_in n (drop 4 bytes)
 
 -- the numbers of the pages
 unfoldable pub named : List ℕ → List ℕ
-named header = numbers_in (count_of header) (drop 8 header)
+named header = numbers_in (count_of header) (drop NUMBERS_AT header)
 
 -- the bytes of a header: the count, four zero bytes, the numbers, and zeros to the page's end
 unfoldable pub header_page : List ℕ → List ℕ
-header_page numbers = bytes_of (length numbers) ++ (replicate 4 0 ++ (flat_map bytes_of numbers ++ replicate (504 - 4 * length numbers) 0))
+header_page numbers = bytes_of (length numbers) ++ (replicate 4 0 ++ (flat_map bytes_of numbers ++ replicate (PAGE_SIZE - NUMBERS_AT - 4 * length numbers) 0))
 
 -- a count in its range
 abbrev pub IsCount : ℕ → Type 0
-IsCount count = (1 ≤ count) × (count ≤ 80)
+IsCount count = (1 ≤ count) × (count ≤ CHANGE_LIMIT)
 
 -- numbers in their ranges: pages that a change may replace, rising strictly from behind the last one
 abbrev pub AreHomes : ℕ → ℕ → List ℕ → Type 0

@@ -1,5 +1,6 @@
 -- What a journal is, by what it keeps and by the disk that it was made with.
 use Rattle.std.specs.Prelude.{◌≡◌, ℕ, ◌*◌, ◌≤◌, List}
+use Rattle.redo_journal.specs.declared.layout.TheConstants.{PAGE_SIZE, LEAST_PAGES}
 use Rattle.redo_journal.specs.declared.journal.Journal.{Journal}
 
 module _ {D : Type 0} where
@@ -17,5 +18,5 @@ module _ {D : Type 0} where
 
   -- the disk holds as many whole pages, those of the journal among them
   pub record HasPages (size_of : D → ℕ) (journal : Journal D) : Type 0 where
-    pub size : size_of (disk_of journal) ≡ 512 * total_of journal
-    pub least : 85 ≤ total_of journal
+    pub size : size_of (disk_of journal) ≡ PAGE_SIZE * total_of journal
+    pub least : LEAST_PAGES ≤ total_of journal

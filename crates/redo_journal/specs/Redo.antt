@@ -3,11 +3,12 @@ use Rattle.std.specs.Prelude.{◌≡◌, ℕ, suc, ◌*◌, ◌<◌, ◌≤◌, 
 use Rattle.std.specs.List.{list_any}
 use Rattle.std.specs.Map.{lookup}
 use Rattle.redo_journal.specs.Pages.{page, gate, magic, IsHome}
+use Rattle.redo_journal.specs.declared.layout.TheConstants.{PAGE_SIZE, OPEN_GATE, HEADER_PAGE, FIRST_IMAGE, LEAST_PAGES}
 use Rattle.redo_journal.specs.Header.{named, IsHeader}
 
 -- whether the gate is open
 abbrev pub is_open : List ℕ → Bool
-is_open image = gate image == 1
+is_open image = gate image == OPEN_GATE
 
 -- the pages from place i on, with the numbers of those that they replace
 abbrev pub images_from : List ℕ → ℕ → List ℕ → List (ℕ × List ℕ)
@@ -16,7 +17,7 @@ images_from image i (n ∷ ns) = (n, page image i) ∷ images_from image (suc i)
 
 -- the journal: the images by its header
 unfoldable pub journal_of : List ℕ → List (ℕ × List ℕ)
-journal_of image = images_from image 5 (named (page image 4))
+journal_of image = images_from image FIRST_IMAGE (named (page image HEADER_PAGE))
 
 -- pages with some replaced
 abbrev pub replaced_by : Option (List ℕ) → List ℕ → List ℕ
@@ -33,9 +34,9 @@ redo_page image n = if is_open image then over (journal_of image) (page image) n
 -- The image has so many pages, those of the journal among them; where its gate is open, the header is in
 -- its ranges; and it stands for this magic and these pages.
 pub record HasHome (total : ℕ) (image marks : List ℕ) (home : ℕ → List ℕ) : Type 0 where
-  pub least : 85 ≤ total
-  pub size : length image ≡ 512 * total
-  pub clean : IsTrue (is_open image) → IsHeader total (page image 4)
+  pub least : LEAST_PAGES ≤ total
+  pub size : length image ≡ PAGE_SIZE * total
+  pub clean : IsTrue (is_open image) → IsHeader total (page image HEADER_PAGE)
   pub marks_are : magic image ≡ marks
   pub pages_are : (n : ℕ) → IsHome total n → redo_page image n ≡ home n
 

@@ -1,26 +1,22 @@
 //! The journal's header page.
 ghost use Rattle.std.specs.Prelude.{◌≡◌, ◌<◌, ◌≤◌, ◌↔◌, IfOk, IfErr, IsTrue, length};
+ghost use Rattle.redo_journal.specs.declared.layout.TheConstants.{CHANGE_LIMIT};
 ghost use Rattle.redo_journal.specs.Pages.{IsHome};
 ghost use Rattle.redo_journal.specs.Header.{header_page, number_of, named, IsCount, IsHeader, IsFirstBad};
 
 use crate::Field;
+use crate::layout::{CHANGE_LIMIT, FIRST_HOME, HEADER_PAGE, NUMBERS_AT, PAGE_SIZE};
 use arrayvec::ArrayVec;
 use byteorder::{BigEndian, ByteOrder};
 
-/// How many bytes a page has.
-pub(crate) const PAGE: usize = 512;
-
-/// How many pages a change may have.
-pub(crate) const MOST: usize = 80;
-
 /// The numbers of the pages of a change, in rising order.
-pub(crate) type Numbers = ArrayVec<u32, MOST>;
+pub(crate) type Numbers = ArrayVec<u32, CHANGE_LIMIT>;
 
 /// Whether a change may replace this page of a file of so many.
 pub(crate) fn is_home(total: u32, n: u32) -> bool
     ensures { IsTrue result ↔ IsHome total n }
 {
-    (1..=3).contains(&n) || (85..total).contains(&n)
+    (1..HEADER_PAGE).contains(&n) || (FIRST_HOME..total).contains(&n)
 }
 
 /// The number in the first four bytes.
@@ -36,7 +32,7 @@ fn number_in(bytes: &[u8]) -> u32
 fn is_count(count: u32) -> bool
     ensures { IsTrue result ↔ IsCount count }
 {
-    (1..=MOST as u32).contains(&count)
+    (1..=CHANGE_LIMIT as u32).contains(&count)
 }
 
 /// Whether this number may stand in a header behind the last one.
@@ -47,19 +43,22 @@ fn is_next(total: u32, last: u32, n: u32) -> bool
 }
 
 /// The header of a change to these pages.
-pub(crate) fn header_of(numbers: &[u32]) -> [u8; PAGE]
-    requires { length numbers.now ≤ 80 }
+pub(crate) fn header_of(numbers: &[u32]) -> [u8; PAGE_SIZE]
+    requires { length numbers.now ≤ CHANGE_LIMIT }
     ensures { result ≡ header_page numbers.now }
 {
-    let mut header = [0; PAGE];
+    let mut header = [0; PAGE_SIZE];
     BigEndian::write_u32(&mut header, numbers.len() as u32);
-    BigEndian::write_u32_into(numbers, &mut header[8..8 + 4 * numbers.len()]);
+    BigEndian::write_u32_into(
+        numbers,
+        &mut header[NUMBERS_AT..NUMBERS_AT + 4 * numbers.len()],
+    );
     header
 }
 
 /// The numbers of the pages in a header of a file of so many pages, or the first field of it that is
 /// out of its range.
-pub(crate) fn read_header(total: u32, header: &[u8; PAGE]) -> Result<Numbers, Field>
+pub(crate) fn read_header(total: u32, header: &[u8; PAGE_SIZE]) -> Result<Numbers, Field>
     ensures good { IfOk result (λ numbers. (numbers.items ≡ named header.now) × IsHeader total header.now) }
     ensures bad { IfErr result (λ field. IsFirstBad total header.now field) }
 {
@@ -70,7 +69,7 @@ pub(crate) fn read_header(total: u32, header: &[u8; PAGE]) -> Result<Numbers, Fi
     let mut numbers = ArrayVec::new();
     let mut last = 0;
     for place in 0..count {
-        let number = number_in(&header[8 + 4 * place as usize..]);
+        let number = number_in(&header[NUMBERS_AT + 4 * place as usize..]);
         if !is_next(total, last, number) {
             return Err(Field::Page { place, number });
         }

@@ -3,13 +3,14 @@ ghost use Rattle.std.specs.Prelude.{◌≡◌, ◌⊎◌, ◌*◌, ◌<◌, ◌�
 ghost use Rattle.std.specs.Map.{lookup};
 ghost use Rattle.spb_edge.specs.Fault.{IsCounted, counted};
 ghost use Rattle.spb_edge.specs.Crash.{Only, LeavesOnly};
+ghost use Rattle.redo_journal.specs.declared.layout.TheConstants.{PAGE_SIZE, CHANGE_LIMIT, HEADER_PAGE, LEAST_PAGES, CLOSED_GATE};
 ghost use Rattle.redo_journal.specs.Pages.{page, gate, IsHome};
 ghost use Rattle.redo_journal.specs.Header.{named};
 ghost use Rattle.redo_journal.specs.Redo.{is_open, HasHome, DiffersWithin};
 ghost use Rattle.redo_journal.specs.Change.{with_page, Stages, Holds, Commits, IsLeftBy, IsRedone, Recovers, OnBadHeader, IsCountedFault};
 ghost use Rattle.redo_journal.specs.Staging.{JoinsOne, LaysOne};
 
-use crate::header::PAGE;
+use crate::layout::PAGE_SIZE;
 use crate::moves::{commit_staged, settle_staged};
 use crate::recovery::{read_page, recover_staged};
 use crate::staged::Staged;
@@ -40,8 +41,8 @@ impl<'a, D: Disk> Journal<'a, D> {
     /// A journal over a disk of `total` whole pages, at least 85, with no page staged. It takes the room
     /// for a change here, 81 pages, so that no later call takes memory. No device call is made.
     pub fn new(alloc: Global, disk: &'a mut D, total: u32) -> Result<Self, Memory>
-        requires least { 85 ≤ total }
-        requires size { D.size_of disk.old ≡ 512 * total }
+        requires least { LEAST_PAGES ≤ total }
+        requires size { D.size_of disk.old ≡ PAGE_SIZE * total }
         ensures pages { IfOk result (λ journal. HasPages D.size_of journal) }
         ensures none { IfOk result (λ journal. staged_of journal ≡ []) }
         ensures total { IfOk result (λ journal. total_of journal ≡ total) }
@@ -64,8 +65,8 @@ impl<'a, D: Disk> Journal<'a, D> {
         disk: &'a mut D,
         total: u32,
     ) -> Result<Self, (Memory, &'a mut D)>
-        requires least { 85 ≤ total }
-        requires size { D.size_of disk.old ≡ 512 * total }
+        requires least { LEAST_PAGES ≤ total }
+        requires size { D.size_of disk.old ≡ PAGE_SIZE * total }
         ensures pages { IfOk result (λ journal. HasPages D.size_of journal) }
         ensures none { IfOk result (λ journal. staged_of journal ≡ []) }
         ensures total { IfOk result (λ journal. total_of journal ≡ total) }
@@ -126,7 +127,7 @@ impl<'a, D: Disk> Journal<'a, D> {
 
     /// Page n of the disk, whatever is staged. n is below the number of pages. One device call, straight
     /// into the caller's page. `DiskFault` comes only where the disk counted a fault in this call.
-    pub fn read_page(&mut self, n: u32, into: &mut [u8; 512]) -> Result<(), DiskFault>
+    pub fn read_page(&mut self, n: u32, into: &mut [u8; PAGE_SIZE]) -> Result<(), DiskFault>
         requires pages { HasPages D.size_of self.old }
         requires within { n < total_of self.old }
         ensures data { IsTrue (D.told (disk_of self.old)) → OnOk result (into.new ≡ page (D.image (disk_of self.old)) n) }
@@ -145,11 +146,11 @@ impl<'a, D: Disk> Journal<'a, D> {
     /// Stages a page: in the place of the one with its number, or as another one. n is 1 to 3, or from 85
     /// on below the number of pages. `TooMany` comes exactly where 80 pages are staged and n is another;
     /// nothing changes then. Pages that come in rising order of their numbers are copied once.
-    pub fn stage(&mut self, n: u32, page: &[u8; 512]) -> Result<(), StageError>
+    pub fn stage(&mut self, n: u32, page: &[u8; PAGE_SIZE]) -> Result<(), StageError>
         requires home { IsHome (total_of self.old) n }
         ensures stages { Stages result (staged_of self.old) n page.now (staged_of self.new) }
         ensures some { OnOk result (0 < length (staged_of self.new)) }
-        ensures few { length (staged_of self.new) ≤ 80 }
+        ensures few { length (staged_of self.new) ≤ CHANGE_LIMIT }
         ensures total { total_of self.new ≡ total_of self.old }
         ensures disk { disk_of self.new ≡ disk_of self.old }
         ensures name { self.new.disk.ghost_name ≡ self.old.disk.ghost_name }
@@ -161,7 +162,7 @@ impl<'a, D: Disk> Journal<'a, D> {
     /// nothing is copied; the number is found by bisection.
     pub fn staged_page(&self, n: u32) -> Option<&[u8]>
         ensures page { MatchOption result (lookup (λ m. m == n) (staged_of self.now) ≡ None) (λ page. lookup (λ m. m == n) (staged_of self.now) ≡ Some page.now) }
-        ensures whole { IfSome result (λ page. length page.now ≡ 512) }
+        ensures whole { IfSome result (λ page. length page.now ≡ PAGE_SIZE) }
     {
         self.staged.page(n)
     }
@@ -214,7 +215,7 @@ impl<'a, D: Disk> Journal<'a, D> {
             → OnOk result (IsRedone (total_of self.old) (D.image (disk_of self.old)) (D.image (disk_of self.new))) }
         ensures home { IsTrue (D.told (disk_of self.old)) → Holds (staged_of self.old) (D.image (disk_of self.old)) → (marks : List ℕ) (home : ℕ → List ℕ)
             → HasHome (total_of self.old) (D.image (disk_of self.old)) marks home → OnOk result (HasHome (total_of self.old) (D.image (disk_of self.new)) marks home) }
-        ensures closed { IsTrue (D.told (disk_of self.old)) → OnOk result (gate (D.image (disk_of self.new)) ≡ 0) }
+        ensures closed { IsTrue (D.told (disk_of self.old)) → OnOk result (gate (D.image (disk_of self.new)) ≡ CLOSED_GATE) }
         ensures any_moment { IsTrue (D.told (disk_of self.old)) → IsTrue (D.tells_crashes (disk_of self.old))
             → Only (D.image (disk_of self.old)) (D.may_leave (disk_of self.old)) → Holds (staged_of self.old) (D.image (disk_of self.old))
             → (marks : List ℕ) (home : ℕ → List ℕ) → HasHome (total_of self.old) (D.image (disk_of self.old)) marks home
@@ -238,7 +239,7 @@ impl<'a, D: Disk> Journal<'a, D> {
 /// the same. The call does nothing.
 pub fn home_survives()
     ensures { (total : ℕ) (image other marks : List ℕ) (home : ℕ → List ℕ) → HasHome total image marks home → IsTrue (is_open image)
-        → DiffersWithin total (named (page image 4)) image other → HasHome total other marks home }
+        → DiffersWithin total (named (page image HEADER_PAGE)) image other → HasHome total other marks home }
 {}
 
 /// An image as a recovery leaves it stands for what it stood for, as a contract. The call does nothing.

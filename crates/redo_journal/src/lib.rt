@@ -9,6 +9,7 @@ pub mod device;
 mod errors;
 mod header;
 mod journal;
+pub mod layout;
 mod moves;
 mod recovery;
 mod staged;

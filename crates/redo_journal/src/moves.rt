@@ -4,6 +4,7 @@ ghost use Rattle.std.specs.Map.{keys_of};
 ghost use Rattle.spb_edge.specs.Fault.{IsCounted};
 ghost use Rattle.spb_edge.specs.Disk.{laid};
 ghost use Rattle.spb_edge.specs.Crash.{Only, Elapses, LeavesOnly};
+ghost use Rattle.redo_journal.specs.declared.layout.TheConstants.{PAGE_SIZE, LEAST_PAGES, CLOSED_GATE};
 ghost use Rattle.redo_journal.specs.Pages.{page, gate};
 ghost use Rattle.redo_journal.specs.Header.{AreHomes};
 ghost use Rattle.redo_journal.specs.Redo.{is_open, over, HasHome, is_among, DiffersWithin};
@@ -11,21 +12,15 @@ ghost use Rattle.redo_journal.specs.Change.{Holds, ArePlaced, IsRedone, Commits,
 
 use crate::DiskFault;
 use crate::device::{sync_all, write_and_keep, write_piece};
-use crate::header::PAGE;
+use crate::layout::{CLOSED_GATE, GATE_AT, HEADER_PAGE, OPEN_GATE, PAGE_SIZE};
 use crate::staged::Staged;
 use spb_edge::Disk;
-
-/// Where the gate stands in the file: a byte of the mark page.
-pub(crate) const GATE: u64 = 16;
-
-/// Which page the journal's header is. The images follow it.
-pub(crate) const HEADER: u32 = 4;
 
 /// Writes the staged pages into the journal, and opens its gate.
 pub(crate) fn commit_staged<D: Disk>(disk: &mut D, staged: &mut Staged) -> Result<(), DiskFault>
     requires some { 0 < length staged.old.pages }
-    requires size { D.size_of disk.old ≡ 512 * staged.old.total }
-    requires least { 85 ≤ staged.old.total }
+    requires size { D.size_of disk.old ≡ PAGE_SIZE * staged.old.total }
+    requires least { LEAST_PAGES ≤ staged.old.total }
     ensures commits { IsTrue (D.told disk.old) → OnOk result (Commits staged.old.total staged.old.pages (D.image disk.old) (D.image disk.new)) }
     ensures any_moment { IsTrue (D.told disk.old) → IsTrue (D.tells_crashes disk.old) → Only (D.image disk.old) (D.may_leave disk.old) → (marks : List ℕ) (home : ℕ → List ℕ)
         → HasHome staged.old.total (D.image disk.old) marks home → is_open (D.image disk.old) ≡ false
@@ -38,18 +33,18 @@ pub(crate) fn commit_staged<D: Disk>(disk: &mut D, staged: &mut Staged) -> Resul
     ensures fault { IsCounted result (D.faults disk.old) (D.faults disk.new) }
 {
     staged.seal();
-    write_and_keep(disk, HEADER as u64 * PAGE as u64, staged.body())?;
-    write_and_keep(disk, GATE, &[1])
+    write_and_keep(disk, PAGE_SIZE as u64 * HEADER_PAGE as u64, staged.body())?;
+    write_and_keep(disk, GATE_AT, &[OPEN_GATE])
 }
 
 /// Writes one page home. One device call.
 fn write_home<D: Disk>(disk: &mut D, n: u32, page: &[u8]) -> Result<(), DiskFault>
-    requires within { 512 * n + 512 ≤ D.size_of disk.old }
-    requires page { length page.now ≡ 512 }
-    ensures image { IsTrue (D.told disk.old) → OnOk result (D.image disk.new ≡ laid (D.image disk.old) (512 * n) page.now) }
+    requires within { PAGE_SIZE * n + PAGE_SIZE ≤ D.size_of disk.old }
+    requires page { length page.now ≡ PAGE_SIZE }
+    ensures image { IsTrue (D.told disk.old) → OnOk result (D.image disk.new ≡ laid (D.image disk.old) (PAGE_SIZE * n) page.now) }
     // Whatever image a crash may leave: where it differed from another at most within some pages of which
     // this is one, it still does.
-    ensures crash { (total : ℕ) (numbers start : List ℕ) → length start ≡ 512 * total → n < total → IsTrue (is_among n numbers)
+    ensures crash { (total : ℕ) (numbers start : List ℕ) → length start ≡ PAGE_SIZE * total → n < total → IsTrue (is_among n numbers)
         → ((c : List ℕ) → D.may_leave disk.old c → DiffersWithin total numbers start c) → (c : List ℕ) → D.may_leave disk.new c → DiffersWithin total numbers start c }
     ensures time { Elapses (D.moment disk.old) (D.moment disk.new) (D.left_since disk.old) (D.left_since disk.new) (D.may_leave disk.new) }
     ensures told { (D.told disk.new ≡ D.told disk.old) × (D.tells_crashes disk.new ≡ D.tells_crashes disk.old) }
@@ -57,13 +52,13 @@ fn write_home<D: Disk>(disk: &mut D, n: u32, page: &[u8]) -> Result<(), DiskFaul
     ensures reads { IsTrue (D.told disk.old) → D.reads disk.new ≡ D.reads disk.old }
     ensures fault { IsCounted result (D.faults disk.old) (D.faults disk.new) }
 {
-    write_piece(disk, PAGE as u64 * n as u64, page)
+    write_piece(disk, PAGE_SIZE as u64 * n as u64, page)
 }
 
 /// Writes all staged pages home, in rising order of their numbers.
 fn write_all_home<D: Disk>(disk: &mut D, staged: &Staged) -> Result<(), DiskFault>
-    requires size { D.size_of disk.old ≡ 512 * staged.now.total }
-    requires least { 85 ≤ staged.now.total }
+    requires size { D.size_of disk.old ≡ PAGE_SIZE * staged.now.total }
+    requires least { LEAST_PAGES ≤ staged.now.total }
     ensures placed { IsTrue (D.told disk.old) → OnOk result (ArePlaced staged.now.pages (D.image disk.new)) }
     ensures differs { IsTrue (D.told disk.old) → OnOk result (DiffersWithin staged.now.total (keys_of staged.now.pages) (D.image disk.old) (D.image disk.new)) }
     ensures any_moment { IsTrue (D.told disk.old) → Only (D.image disk.old) (D.may_leave disk.old)
@@ -85,10 +80,10 @@ fn write_all_home<D: Disk>(disk: &mut D, staged: &Staged) -> Result<(), DiskFaul
 
 /// Writes all staged pages home, closes the gate, and takes them out.
 pub(crate) fn settle_staged<D: Disk>(disk: &mut D, staged: &mut Staged) -> Result<(), DiskFault>
-    requires size { D.size_of disk.old ≡ 512 * staged.old.total }
-    requires least { 85 ≤ staged.old.total }
+    requires size { D.size_of disk.old ≡ PAGE_SIZE * staged.old.total }
+    requires least { LEAST_PAGES ≤ staged.old.total }
     ensures settles { IsTrue (D.told disk.old) → Holds staged.old.pages (D.image disk.old) → OnOk result (IsRedone staged.old.total (D.image disk.old) (D.image disk.new)) }
-    ensures closed { IsTrue (D.told disk.old) → OnOk result (gate (D.image disk.new) ≡ 0) }
+    ensures closed { IsTrue (D.told disk.old) → OnOk result (gate (D.image disk.new) ≡ CLOSED_GATE) }
     ensures any_moment { IsTrue (D.told disk.old) → IsTrue (D.tells_crashes disk.old) → Only (D.image disk.old) (D.may_leave disk.old) → Holds staged.old.pages (D.image disk.old)
         → (marks : List ℕ) (home : ℕ → List ℕ) → HasHome staged.old.total (D.image disk.old) marks home
         → LeavesOnly D.moment D.left_since disk.old disk.new (λ c. HasHome staged.old.total c marks home) }
@@ -102,7 +97,7 @@ pub(crate) fn settle_staged<D: Disk>(disk: &mut D, staged: &mut Staged) -> Resul
 {
     write_all_home(disk, staged)?;
     sync_all(disk)?;
-    write_and_keep(disk, GATE, &[0])?;
+    write_and_keep(disk, GATE_AT, &[CLOSED_GATE])?;
     staged.clear();
     Ok(())
 }

@@ -2,20 +2,22 @@
 ghost use Rattle.std.specs.Prelude.{◌≡◌, ◌⊎◌, ◌+◌, ◌*◌, ◌<◌, ◌≤◌, [], List, ℕ, false, IsTrue, OnOk, IfOk, length};
 ghost use Rattle.spb_edge.specs.Fault.{IsCounted, counted};
 ghost use Rattle.spb_edge.specs.Crash.{Only, LeavesOnly};
+ghost use Rattle.redo_journal.specs.declared.layout.TheConstants.{PAGE_SIZE, GATE_AT, LEAST_PAGES};
 ghost use Rattle.redo_journal.specs.Pages.{page};
 ghost use Rattle.redo_journal.specs.Redo.{is_open, HasHome};
 ghost use Rattle.redo_journal.specs.Change.{Finds, Recovers, OnBadHeader, IsCountedFault};
 
 use crate::device::{read_piece, sync_all};
-use crate::header::{PAGE, read_header};
-use crate::moves::{GATE, HEADER, settle_staged};
+use crate::header::read_header;
+use crate::layout::{GATE_AT, HEADER_PAGE, OPEN_GATE, PAGE_SIZE};
+use crate::moves::settle_staged;
 use crate::staged::Staged;
 use crate::{DiskFault, RecoverError};
 use spb_edge::Disk;
 
 /// Whether the gate is open. One device call.
 fn gate_is_open<D: Disk>(disk: &mut D) -> Result<bool, DiskFault>
-    requires { 17 ≤ D.size_of disk.old }
+    requires { GATE_AT + 1 ≤ D.size_of disk.old }
     ensures gate { IsTrue (D.told disk.old) → IfOk result (λ opened. opened ≡ is_open (D.image disk.old)) }
     ensures quiet { D.quiet disk.old disk.new }
     ensures image { IsTrue (D.told disk.old) → D.image disk.new ≡ D.image disk.old }
@@ -24,17 +26,17 @@ fn gate_is_open<D: Disk>(disk: &mut D) -> Result<bool, DiskFault>
     ensures fault { IsCounted result (D.faults disk.old) (D.faults disk.new) }
 {
     let mut gate = [0];
-    read_piece(disk, GATE, &mut gate)?;
-    Ok(gate[0] == 1)
+    read_piece(disk, GATE_AT, &mut gate)?;
+    Ok(gate[0] == OPEN_GATE)
 }
 
 /// Page n. One device call.
 pub(crate) fn read_page<D: Disk>(
     disk: &mut D,
     n: u32,
-    into: &mut [u8; PAGE],
+    into: &mut [u8; PAGE_SIZE],
 ) -> Result<(), DiskFault>
-    requires { 512 * n + 512 ≤ D.size_of disk.old }
+    requires { PAGE_SIZE * n + PAGE_SIZE ≤ D.size_of disk.old }
     ensures data { IsTrue (D.told disk.old) → OnOk result (into.new ≡ page (D.image disk.old) n) }
     ensures quiet { D.quiet disk.old disk.new }
     ensures image { IsTrue (D.told disk.old) → D.image disk.new ≡ D.image disk.old }
@@ -43,13 +45,13 @@ pub(crate) fn read_page<D: Disk>(
     ensures reads { IsTrue (D.told disk.old) → D.reads disk.new ≡ counted (D.reads disk.old) }
     ensures fault { IsCounted result (D.faults disk.old) (D.faults disk.new) }
 {
-    read_piece(disk, PAGE as u64 * n as u64, into)
+    read_piece(disk, PAGE_SIZE as u64 * n as u64, into)
 }
 
 /// Stages the change that the journal holds, and says whether it holds one.
 fn find_change<D: Disk>(disk: &mut D, staged: &mut Staged) -> Result<bool, RecoverError>
     requires none { staged.old.pages ≡ [] }
-    requires size { 43520 ≤ D.size_of disk.old }
+    requires size { PAGE_SIZE * LEAST_PAGES ≤ D.size_of disk.old }
     ensures finds { IsTrue (D.told disk.old) → Finds staged.old.total result (D.image disk.old) staged.new.pages }
     ensures none { IfOk result (λ found. found ≡ false → staged.new.pages ≡ []) }
     ensures total { staged.new.total ≡ staged.old.total }
@@ -62,8 +64,8 @@ fn find_change<D: Disk>(disk: &mut D, staged: &mut Staged) -> Result<bool, Recov
     if !gate_is_open(disk)? {
         return Ok(false);
     }
-    let mut header = [0; PAGE];
-    read_page(disk, HEADER, &mut header)?;
+    let mut header = [0; PAGE_SIZE];
+    read_page(disk, HEADER_PAGE, &mut header)?;
     match read_header(staged.total(), &header) {
         Ok(numbers) => {
             staged.load(disk, numbers)?;
@@ -80,7 +82,7 @@ fn find_change<D: Disk>(disk: &mut D, staged: &mut Staged) -> Result<bool, Recov
 /// should. So no page may go home before it.
 fn find_kept_change<D: Disk>(disk: &mut D, staged: &mut Staged) -> Result<bool, RecoverError>
     requires none { staged.old.pages ≡ [] }
-    requires size { 43520 ≤ D.size_of disk.old }
+    requires size { PAGE_SIZE * LEAST_PAGES ≤ D.size_of disk.old }
     ensures finds { IsTrue (D.told disk.old) → Finds staged.old.total result (D.image disk.old) staged.new.pages }
     ensures none { IfOk result (λ found. found ≡ false → staged.new.pages ≡ []) }
     ensures total { staged.new.total ≡ staged.old.total }
@@ -98,8 +100,8 @@ fn find_kept_change<D: Disk>(disk: &mut D, staged: &mut Staged) -> Result<bool, 
 /// Finishes the change that the journal holds, if it holds one.
 pub(crate) fn recover_staged<D: Disk>(disk: &mut D, staged: &mut Staged) -> Result<(), RecoverError>
     requires none { staged.old.pages ≡ [] }
-    requires size { D.size_of disk.old ≡ 512 * staged.old.total }
-    requires least { 85 ≤ staged.old.total }
+    requires size { D.size_of disk.old ≡ PAGE_SIZE * staged.old.total }
+    requires least { LEAST_PAGES ≤ staged.old.total }
     ensures recovers { IsTrue (D.told disk.old) → Recovers staged.old.total result (D.image disk.old) (D.image disk.new) }
     ensures any_start { IsTrue (D.told disk.old) → IsTrue (D.tells_crashes disk.old)
         → (marks : List ℕ) (home : ℕ → List ℕ) → HasHome staged.old.total (D.image disk.old) marks home

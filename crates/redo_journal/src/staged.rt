@@ -1,6 +1,7 @@
 //! The pages of a change on its way to the disk.
 ghost use Rattle.std.specs.Prelude.{◌≡◌, ◌+◌, ◌*◌, ◌<◌, ◌≤◌, ◌==◌, [], ◌∷◌, ◌++◌, IsTrue, IfOk, IfSome, OnOk, MatchOption, MatchResult, None, Some, length, take, drop, slice_index, vec_len, vec_capacity};
 ghost use Rattle.std.specs.Map.{keys_of, lookup};
+ghost use Rattle.redo_journal.specs.declared.layout.TheConstants.{PAGE_SIZE, CHANGE_LIMIT, FIRST_IMAGE, LEAST_PAGES};
 ghost use Rattle.redo_journal.specs.Pages.{IsHome};
 ghost use Rattle.spb_edge.specs.Fault.{IsCounted};
 ghost use Rattle.redo_journal.specs.Header.{AreHomes, header_page};
@@ -8,15 +9,13 @@ ghost use Rattle.redo_journal.specs.Redo.{images_from};
 ghost use Rattle.redo_journal.specs.Change.{StagedPages, IsSound, Stages, IsRising, IsAt, IsBetween, joined_images};
 
 use crate::device::read_piece;
-use crate::header::{MOST, Numbers, PAGE, header_of};
+use crate::header::{Numbers, header_of};
+use crate::layout::{CHANGE_LIMIT, FIRST_IMAGE, PAGE_SIZE};
 use crate::{DiskFault, StageError};
 use arrayvec::ArrayVec;
 use spb_edge::{Disk, Memory};
 use std::alloc::Global;
 use std::marker::Model;
-
-/// Where the journal's images begin in the file.
-const IMAGES: u64 = 2560;
 
 /// The pages of a change in rising order of their numbers, behind a page of room for their header. All
 /// of its memory is taken when it is made.
@@ -29,14 +28,15 @@ pub(crate) struct Staged {
 
 impl Model for Staged {
     ghost use Rattle.std.specs.Prelude.{take, drop, vec_capacity};
+    ghost use Rattle.redo_journal.specs.declared.layout.TheConstants.{PAGE_SIZE};
     ghost use Rattle.redo_journal.specs.Change.{StagedPages, IsStaged, paired};
 
     ghost Value = { StagedPages };
 
     ghost view = { λ s. record {
       total = s.total;
-      header = take 512 s.body.items;
-      pages = paired 512 s.numbers.items (drop 512 s.body.items);
+      header = take PAGE_SIZE s.body.items;
+      pages = paired PAGE_SIZE s.numbers.items (drop PAGE_SIZE s.body.items);
     } };
 
     ghost invariant = { λ s. IsStaged s.total s.numbers.items s.body.items (vec_capacity s.body) };
@@ -47,8 +47,8 @@ impl Staged {
     pub(crate) fn new(alloc: Global, total: u32) -> Result<Staged, Memory>
         ensures { IfOk result (λ staged. (staged.pages ≡ []) × (staged.total ≡ total)) }
     {
-        let mut body = Vec::with_capacity(alloc, (1 + MOST) * PAGE)?;
-        body.extend_from_slice(&[0; PAGE])?;
+        let mut body = Vec::with_capacity(alloc, (1 + CHANGE_LIMIT) * PAGE_SIZE)?;
+        body.extend_from_slice(&[0; PAGE_SIZE])?;
         Ok(Staged {
             total,
             numbers: ArrayVec::new(),
@@ -72,10 +72,10 @@ impl Staged {
     }
 
     /// Stages a page in the place of one with its number, or as another one.
-    pub(crate) fn stage(&mut self, n: u32, page: &[u8; PAGE]) -> Result<(), StageError>
+    pub(crate) fn stage(&mut self, n: u32, page: &[u8; PAGE_SIZE]) -> Result<(), StageError>
         requires { IsHome self.old.total n }
         ensures stages { Stages result self.old.pages n page.now self.new.pages }
-        ensures few { length self.new.pages ≤ 80 }
+        ensures few { length self.new.pages ≤ CHANGE_LIMIT }
         ensures total { self.new.total ≡ self.old.total }
     {
         match place_of(self.numbers.as_slice(), n) {
@@ -97,7 +97,7 @@ impl Staged {
     /// The page of this number.
     pub(crate) fn page(&self, n: u32) -> Option<&[u8]>
         ensures page { MatchOption result (lookup (λ m. m == n) self.now.pages ≡ None) (λ page. lookup (λ m. m == n) self.now.pages ≡ Some page.now) }
-        ensures whole { IfSome result (λ page. length page.now ≡ 512) }
+        ensures whole { IfSome result (λ page. length page.now ≡ PAGE_SIZE) }
     {
         match place_of(self.numbers.as_slice(), n) {
             Ok(place) => Some(self.entry(place).1),
@@ -109,8 +109,8 @@ impl Staged {
     /// disk. One device call.
     pub(crate) fn load<D: Disk>(&mut self, disk: &mut D, numbers: Numbers) -> Result<(), DiskFault>
         requires homes { AreHomes self.old.total 0 numbers.items }
-        requires size { 43520 ≤ D.size_of disk.old }
-        ensures images { IsTrue (D.told disk.old) → OnOk result (self.new.pages ≡ images_from (D.image disk.old) 5 numbers.items) }
+        requires size { PAGE_SIZE * LEAST_PAGES ≤ D.size_of disk.old }
+        ensures images { IsTrue (D.told disk.old) → OnOk result (self.new.pages ≡ images_from (D.image disk.old) FIRST_IMAGE numbers.items) }
         ensures total { self.new.total ≡ self.old.total }
         ensures quiet { D.quiet disk.old disk.new }
         ensures image { IsTrue (D.told disk.old) → D.image disk.new ≡ D.image disk.old }
@@ -128,7 +128,7 @@ impl Staged {
         ensures total { self.new.total ≡ self.old.total }
     {
         self.numbers.clear();
-        self.body.truncate(PAGE);
+        self.body.truncate(PAGE_SIZE);
     }
 
     /// Writes the header of the pages.
@@ -144,7 +144,7 @@ impl Staged {
     /// The header and the pages, behind one another.
     pub(crate) fn body(&self) -> &[u8]
         ensures bytes { result.now ≡ self.now.header ++ joined_images self.now.pages }
-        ensures long { length result.now ≡ 512 * (1 + length self.now.pages) }
+        ensures long { length result.now ≡ PAGE_SIZE * (1 + length self.now.pages) }
         ensures sound { IsSound self.now }
     {
         &self.body
@@ -156,22 +156,22 @@ impl Staged {
         ensures entry { self.now.pages ≡ take place self.now.pages ++ (result.0, result.1.now) ∷ drop (place + 1) self.now.pages }
         ensures number { result.0 ≡ slice_index (keys_of self.now.pages) place }
         ensures home { IsHome self.now.total result.0 }
-        ensures page { length result.1.now ≡ 512 }
+        ensures page { length result.1.now ≡ PAGE_SIZE }
     {
         let numbers = self.numbers.as_slice();
-        let at = (place + 1) * PAGE;
-        (numbers[place], &self.body[at..at + PAGE])
+        let at = (place + 1) * PAGE_SIZE;
+        (numbers[place], &self.body[at..at + PAGE_SIZE])
     }
 }
 
 /// Reads so many of the journal's images behind the header's page. There is room for them.
 fn read_images<D: Disk>(disk: &mut D, body: &mut Vec<u8>, count: usize) -> Result<(), DiskFault>
-    requires few { count ≤ 80 }
-    requires header { 512 ≤ vec_len body.old }
-    requires room { 41472 ≤ vec_capacity body.old }
-    requires size { 43520 ≤ D.size_of disk.old }
-    ensures images { IsTrue (D.told disk.old) → OnOk result (drop 512 body.new.items ≡ take (512 * count) (drop 2560 (D.image disk.old))) }
-    ensures len { vec_len body.new ≡ 512 * (1 + count) }
+    requires few { count ≤ CHANGE_LIMIT }
+    requires header { PAGE_SIZE ≤ vec_len body.old }
+    requires room { PAGE_SIZE * (1 + CHANGE_LIMIT) ≤ vec_capacity body.old }
+    requires size { PAGE_SIZE * LEAST_PAGES ≤ D.size_of disk.old }
+    ensures images { IsTrue (D.told disk.old) → OnOk result (drop PAGE_SIZE body.new.items ≡ take (PAGE_SIZE * count) (drop (PAGE_SIZE * FIRST_IMAGE) (D.image disk.old))) }
+    ensures len { vec_len body.new ≡ PAGE_SIZE * (1 + count) }
     ensures capacity { vec_capacity body.old ≤ vec_capacity body.new }
     ensures quiet { D.quiet disk.old disk.new }
     ensures image { IsTrue (D.told disk.old) → D.image disk.new ≡ D.image disk.old }
@@ -179,10 +179,14 @@ fn read_images<D: Disk>(disk: &mut D, body: &mut Vec<u8>, count: usize) -> Resul
     ensures size { D.size_of disk.new ≡ D.size_of disk.old }
     ensures fault { IsCounted result (D.faults disk.old) (D.faults disk.new) }
 {
-    let Ok(()) = body.resize(PAGE * (1 + count), 0) else {
+    let Ok(()) = body.resize(PAGE_SIZE * (1 + count), 0) else {
         unreachable!()
     };
-    read_piece(disk, IMAGES, &mut body[PAGE..])
+    read_piece(
+        disk,
+        PAGE_SIZE as u64 * FIRST_IMAGE as u64,
+        &mut body[PAGE_SIZE..],
+    )
 }
 
 /// Where a number stands among rising ones, or where it belongs.
@@ -194,24 +198,24 @@ fn place_of(numbers: &[u32], n: u32) -> Result<usize, usize>
 }
 
 /// Lays a page over the one at this place, from 0.
-fn replace_page(pages: &mut Vec<u8>, place: usize, page: &[u8; PAGE])
-    requires { 512 * place + 512 ≤ vec_len pages.old }
-    ensures items { pages.new.items ≡ take (512 * place) pages.old.items ++ (page.now ++ drop (512 * place + 512) pages.old.items) }
+fn replace_page(pages: &mut Vec<u8>, place: usize, page: &[u8; PAGE_SIZE])
+    requires { PAGE_SIZE * place + PAGE_SIZE ≤ vec_len pages.old }
+    ensures items { pages.new.items ≡ take (PAGE_SIZE * place) pages.old.items ++ (page.now ++ drop (PAGE_SIZE * place + PAGE_SIZE) pages.old.items) }
     ensures len { vec_len pages.new ≡ vec_len pages.old }
     ensures capacity { vec_capacity pages.old ≤ vec_capacity pages.new }
 {
-    let at = PAGE * place;
-    pages[at..at + PAGE].copy_from_slice(page);
+    let at = PAGE_SIZE * place;
+    pages[at..at + PAGE_SIZE].copy_from_slice(page);
 }
 
 /// Puts a page before the one at this place, from 0, or behind all of them. There is room for it.
-fn insert_page(pages: &mut Vec<u8>, place: usize, page: &[u8; PAGE])
-    requires place { 512 * place ≤ vec_len pages.old }
-    requires room { vec_len pages.old + 512 ≤ vec_capacity pages.old }
-    ensures items { pages.new.items ≡ take (512 * place) pages.old.items ++ (page.now ++ drop (512 * place) pages.old.items) }
+fn insert_page(pages: &mut Vec<u8>, place: usize, page: &[u8; PAGE_SIZE])
+    requires place { PAGE_SIZE * place ≤ vec_len pages.old }
+    requires room { vec_len pages.old + PAGE_SIZE ≤ vec_capacity pages.old }
+    ensures items { pages.new.items ≡ take (PAGE_SIZE * place) pages.old.items ++ (page.now ++ drop (PAGE_SIZE * place) pages.old.items) }
     ensures capacity { vec_capacity pages.old ≤ vec_capacity pages.new }
 {
-    let at = PAGE * place;
+    let at = PAGE_SIZE * place;
     let end = pages.len();
     let Ok(()) = pages.extend_from_slice(page) else {
         unreachable!()
@@ -219,6 +223,6 @@ fn insert_page(pages: &mut Vec<u8>, place: usize, page: &[u8; PAGE])
     if at == end {
         return;
     }
-    pages.copy_within(at..end, at + PAGE);
-    pages[at..at + PAGE].copy_from_slice(page);
+    pages.copy_within(at..end, at + PAGE_SIZE);
+    pages[at..at + PAGE_SIZE].copy_from_slice(page);
 }
