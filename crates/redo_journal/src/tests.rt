@@ -1,7 +1,11 @@
 //! A change of two pages, stopped and failed at each device call, and recovered.
+ghost use Rattle.std.specs.Prelude.{◌≡◌, ◌*◌, [], ◌∷◌, List, ℕ, false, IsTrue, IfOk, length};
+ghost use Rattle.spb_edge.specs.Crash.{Only, LeavesOnly};
+ghost use Rattle.redo_journal.specs.Redo.{is_open, HasHome};
+ghost use Rattle.redo_journal.specs.Change.{IsLeftBy};
 
 use super::*;
-use spb_edge::{Bytes, Choice, Disk, DiskCall, MemDisk, SureDisk};
+use spb_edge::{Bytes, Choice, Disk, DiskCall, MemDisk, Memory, SureDisk};
 use std::alloc::{AllocError, Global};
 use std::test::Fail;
 
@@ -91,8 +95,8 @@ fn recover(alloc: Global, disk: &mut MemDisk) -> Result<Result<(), RecoverError>
 fn home_after_recovery(alloc: Global, image: &[u8]) -> Result<Home, Fail> {
     let mut disk = disk_of(alloc, image, &[], None)?;
     recover(alloc, &mut disk)??;
-    if disk.image().get(16) == Some(&1) {
-        return Err(Fail::new("the gate is open"));
+    if image.get(16) == Some(&1) && disk.image().get(16) != Some(&0) {
+        return Err(Fail::new("the gate isn't closed"));
     }
     Ok(home_of(disk.image()))
 }
@@ -112,6 +116,102 @@ fn home_whatever_the_stop(alloc: Global, image: &[u8]) -> Result<Home, Fail> {
         }
     }
     Ok(home)
+}
+
+/// Stages and commits one page of a file of 90. Whatever the commit answers, a crash on the way leaves
+/// the pages without this one or with it.
+fn commit_page<D: Disk>(alloc: Global, disk: &mut D, page: &[u8; 512]) -> Result<(), Memory>
+    requires size { D.size_of disk.old ≡ 512 * 90 }
+    ensures any_moment { IsTrue (D.told disk.old) → IsTrue (D.tells_crashes disk.old) → Only (D.image disk.old) (D.may_leave disk.old) → (marks : List ℕ) (home : ℕ → List ℕ)
+        → HasHome 90 (D.image disk.old) marks home → is_open (D.image disk.old) ≡ false
+        → LeavesOnly D.moment D.left_since disk.old disk.new (IsLeftBy 90 ((86, page.now) ∷ []) marks home) }
+{
+    let mut journal = match Journal::new_or_back(alloc, disk, 90) {
+        Ok(journal) => journal,
+        Err(back) => {
+            let (memory, _disk) = back;
+            return Err(memory);
+        }
+    };
+    let Ok(()) = journal.stage(86, page) else {
+        unreachable!()
+    };
+    let _ = journal.commit();
+    let _disk = journal.into_inner();
+    Ok(())
+}
+
+/// What a crash leaves of a file of 90 pages whose page 86 was committed over a fresh disk, some of whose
+/// calls fail: the pages without the new one or with it. The prover sees by it that the disk in memory
+/// tells its image and its crash images, and that the journal's clauses on crashes say something of it.
+fn commit_and_crash(
+    alloc: Global,
+    image: &[u8],
+    failing: &[u64],
+    page: &[u8; 512],
+    choice: Choice,
+) -> Result<Bytes, Memory>
+    requires size { length image.now ≡ 512 * 90 }
+    ensures either { (marks : List ℕ) (home : ℕ → List ℕ) → HasHome 90 image.now marks home → is_open image.now ≡ false
+        → IfOk result (λ bytes. IsLeftBy 90 ((86, page.now) ∷ []) marks home bytes) }
+{
+    let mut disk = MemDisk::new(alloc, image, failing, None, 16, 8192)?;
+    commit_page(alloc, &mut disk, page)?;
+    disk.after_crash(alloc, choice)
+}
+
+#[test]
+fn a_crash_leaves_a_committed_page_or_none(rt: HostRuntime) -> Result<(), Fail> {
+    let old = file(rt.alloc(), 90)?;
+    if old.len() != 46080 {
+        return Err(Fail::new("not 90 pages"));
+    }
+    for failing in 1..5 {
+        for choice in [Choice::KeepAll, Choice::DropAll, Choice::Fill(0x37)] {
+            let left = commit_and_crash(rt.alloc(), &old, &[failing], &changed(86), choice)?;
+            let mut disk = disk_of(rt.alloc(), left.as_slice(), &[], None)?;
+            recover(rt.alloc(), &mut disk)??;
+            let page = disk.image().get(44032..44544).unwrap_or(&[]);
+            let is_new = page == changed(86).as_slice();
+            assert!(rt; is_new || page == [86; 512].as_slice(), "{failing}");
+            assert!(rt; failing > 2 || !is_new, "{failing}");
+        }
+    }
+    Ok(())
+}
+
+/// The change with a fault at the first of these calls, and then a recovery on the same disk, with a
+/// fault at the second; Mixed if a crash leaves neither the old pages nor the new ones, or not what a
+/// recovery that answered Ok left.
+fn home_on_the_same_disk(alloc: Global, old: &[u8], failing: &[u64]) -> Result<Home, Fail> {
+    let mut disk = disk_of(alloc, old, failing, None)?;
+    if change(alloc, &mut disk)? {
+        return Err(Fail::new("no fault came"));
+    }
+    let recovered = recover(alloc, &mut disk)?.is_ok();
+    let home = home_after_recovery(alloc, disk.image())?;
+    for choice in [Choice::KeepAll, Choice::DropAll, Choice::Fill(0x37)] {
+        let left = disk.after_crash(alloc, choice)?;
+        let after = home_after_recovery(alloc, left.as_slice())?;
+        if after == Home::Mixed || recovered && after != home {
+            return Ok(Home::Mixed);
+        }
+    }
+    Ok(home)
+}
+
+#[test]
+fn a_file_is_opened_again_on_the_disk_that_failed(rt: HostRuntime) -> Result<(), Fail> {
+    let old = file(rt.alloc(), 90)?;
+    for first in 1..10 {
+        for second in first + 1..first + 11 {
+            let home = home_on_the_same_disk(rt.alloc(), &old, &[first, second])?;
+            assert!(rt; home != Home::Mixed, "{first} {second}");
+            // From the fourth call on, the sync of the open gate, the image has the change.
+            assert!(rt; (home == Home::New) == (first > 3), "{first} {second}");
+        }
+    }
+    Ok(())
 }
 
 #[test]
@@ -184,6 +284,38 @@ fn the_calls_come_in_this_order(rt: HostRuntime) -> Result<(), Fail> {
 }
 
 #[test]
+fn a_recovery_makes_its_calls_in_this_order(rt: HostRuntime) -> Result<(), Fail> {
+    let old = file(rt.alloc(), 90)?;
+    let sync = DiskCall::Sync;
+    let gate = DiskCall::Read { at: 16, len: 1 };
+    let mut disk = disk_of(rt.alloc(), &old, &[], None)?;
+    recover(rt.alloc(), &mut disk)??;
+    assert!(rt; disk.calls() == [sync, gate].as_slice());
+    // The change stops before its first page goes home.
+    let mut stopped = disk_of(rt.alloc(), &old, &[], Some(4))?;
+    assert!(rt; !change(rt.alloc(), &mut stopped)?);
+    let mut disk = disk_of(rt.alloc(), stopped.image(), &[], None)?;
+    recover(rt.alloc(), &mut disk)??;
+    let header = DiskCall::Read { at: 2048, len: 512 };
+    let images = DiskCall::Read {
+        at: 2560,
+        len: 1024,
+    };
+    let low = DiskCall::Write { at: 1536, len: 512 };
+    let high = DiskCall::Write {
+        at: 43520,
+        len: 512,
+    };
+    let close = DiskCall::Write { at: 16, len: 1 };
+    assert!(rt;
+        disk.calls() == [sync, gate, header, images, low, high, sync, close, sync].as_slice()
+    );
+    assert!(rt; disk.image().get(16) == Some(&0));
+    assert!(rt; home_of(disk.image()) == Home::New);
+    Ok(())
+}
+
+#[test]
 fn eighty_pages_and_no_more(rt: HostRuntime) -> Result<(), Fail> {
     let image = file(rt.alloc(), 166)?;
     let mut disk = SureDisk::new(rt.alloc(), &image)?;
@@ -201,6 +333,8 @@ fn eighty_pages_and_no_more(rt: HostRuntime) -> Result<(), Fail> {
     let mut page = [0; 512];
     journal.read_page(165, &mut page)?;
     assert_eq!(rt; page, [165; 512]);
+    assert!(rt; journal.staged_page(165) == Some([8; 512].as_slice()));
+    assert!(rt; journal.staged_page(90).is_none());
     journal.commit()?;
     journal.settle()?;
     journal.read_page(165, &mut page)?;
@@ -276,6 +410,8 @@ fn the_first_bad_field_is_named(rt: HostRuntime) -> Result<(), Fail> {
 fn laws_and_errors(rt: HostRuntime) -> Result<(), Fail> {
     home_survives();
     home_is_redone();
+    staging_joins_one();
+    staging_lays_one();
     let texts = [
         (format!(in rt.alloc(); "{}", DiskFault)?, "disk fault"),
         (
@@ -285,6 +421,10 @@ fn laws_and_errors(rt: HostRuntime) -> Result<(), Fail> {
         (
             format!(in rt.alloc(); "{}", RecoverError::BadHeader(Field::Count(0)))?,
             "bad journal header",
+        ),
+        (
+            format!(in rt.alloc(); "{}", GrowError::Memory)?,
+            "out of memory",
         ),
         (
             format!(in rt.alloc(); "{}", StageError::TooMany)?,
