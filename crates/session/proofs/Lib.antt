@@ -1,5 +1,5 @@
 pub mod Choosing
-pub mod Engines
+pub mod Evaluations
+pub mod QueryLaws
 pub mod Sound
 pub mod StoreLaws
-pub mod Tables

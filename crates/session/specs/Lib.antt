@@ -1,6 +1,7 @@
-pub mod Measures
+pub mod Queries
 pub mod Session
 pub mod Store
+pub use Rattle.spb_defs.specs.Measures
 pub use Rattle.spb_defs.specs.State
 pub use Rattle.spb_defs.specs.Step
 pub use Rattle.cmd_grammar.specs.HoldsObject

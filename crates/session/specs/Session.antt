@@ -13,11 +13,11 @@ pub record Session : Type 0 where
   pub state : State
   pub ended : Bool
 
--- A reply comes exactly where the session hasn't ended, unless memory runs out: it is that of the state to the
--- line, any object in it is one of the space, and the session goes on with the state after the line. Where
--- memory runs out the session has ended, and an ended session stays as it is.
+-- A reply comes exactly if the session hasn't ended, unless memory runs out: it is that of the state to the line, any
+-- object in it is one of the space, and the session goes on with the state after the line. If memory runs out the session
+-- has ended, and an ended session stays as it is.
 abbrev pub Answers : Result Reply Ending → Session → Line → Session → Type 0
 Answers (Ok said) old line new =
-    (old.ended ≡ false) × (said ≡ reply old.state line) × HoldsObject old.state.space said × (new.state ≡ next old.state line) × (new.state.space ≡ old.state.space) × (new.ended ≡ false)
+    (old.ended ≡ false) × (said ≡ reply old.state line) × HoldsObject old.state.space said × (new.state ≡ next old.state line) × (new.ended ≡ false)
 Answers (Err ending.NoMemory) old line new = (old.ended ≡ false) × (new.ended ≡ true)
 Answers (Err ending.Spent) old line new = (old.ended ≡ true) × (new ≡ old)

@@ -1,14 +1,12 @@
 -- The store in memory as a state.
-use Rattle.std.specs.Prelude.{◌≡◌, ◌≢◌, ℕ, ◌≤◌, IsTrue, Bool, List, [], true, false, All, AllPairs, length, map, sum_by, slice_index_or, Some, None, if◌then◌else◌}
-use Rattle.metrics_builtin.specs.declared.Space.{Space}
+use Rattle.std.specs.Prelude.{◌≡◌, ℕ, ◌≤◌, IsTrue, Bool, List, [], true, false, All, length, map, sum_by, Some, None, if◌then◌else◌}
 use Rattle.metrics_builtin.specs.Space.{fits, IsValid, dist}
 use Rattle.spb_defs.specs.declared.TheConstants.{MEMORY_CAP, SAMPLE_LIMIT}
-use Rattle.spb_defs.specs.Pivots.{vector_of}
-use Rattle.spb_defs.specs.State.{State, closed, with_object}
+use Rattle.spb_defs.specs.State.{State, with_object}
 use Rattle.spb_defs.specs.declared.Command.{Command}
 use Rattle.spb_defs.specs.declared.Command.TheVariants.{Sample, Add, Discard, Get, Count, Range, Near, Join}
 use Rattle.pivot_map.specs.declared.row.Row.{Row}
-use Rattle.pivot_map.specs.Rows.{ArePivots, entries_of}
+use Rattle.pivot_map.specs.Rows.{ArePivots, AreRows, entries_of}
 use Rattle.scan_laws.specs.Tables.{members_of}
 use Rattle.session.specs.declared.store.Store.{Store}
 
@@ -18,30 +16,15 @@ state_of store = record {
   space = store.space;
   wanted = store.wanted;
   pivots = store.pivots.items;
-  joins = true;
+  curve = None;
   cap = MEMORY_CAP;
   samples = if store.sampling then Some store.samples.items else None;
   members = members_of (map entries_of store.tables);
 }
 
--- the rows of a collection
-abbrev pub rows_at : List (List Row) → ℕ → List Row
-rows_at tables c = slice_index_or tables c []
-
 -- the state with the object under the key
 abbrev pub with_member : State → ℕ → ℕ → List ℕ → State
 with_member s c id object = record s { members = with_object s.members c id object }
-
--- the state that a command is answered from: its samples are closed, unless the command is a sample
-abbrev pub readied : State → Command → State
-readied s (Sample object) = s
-readied s (Add c id object) = closed s
-readied s (Discard c id) = closed s
-readied s (Get c id) = closed s
-readied s (Count c) = closed s
-readied s (Range c r object) = closed s
-readied s (Near c k object) = closed s
-readied s (Join c d r) = closed s
 
 -- no samples are kept, unless the command is a sample
 abbrev pub IsReady : Bool → Command → Type 0
@@ -54,12 +37,6 @@ IsReady sampling (Range c r object) = sampling ≡ false
 IsReady sampling (Near c k object) = sampling ≡ false
 IsReady sampling (Join c d r) = sampling ≡ false
 
--- the rows are of objects of the space, each with its distances to the pivots, and no two have one id
-pub record HasRows (space : Space) (pivots : List (List ℕ)) (rows : List Row) : Type 0 where
-  pub objects : All (λ (row : Row). IsValid space row.object) rows
-  pub vects : All (λ (row : Row). row.vect ≡ vector_of (dist space) pivots row.object) rows
-  pub ids : AllPairs (λ (a b : Row). a.id ≢ b.id) rows
-
 -- the space fits, the samples and the pivots are objects of it, each of the four tables has rows by the pivots,
 -- there are no more rows than there may be, and none while samples are kept
 pub record IsSound (store : Store) : Type 0 where
@@ -68,7 +45,7 @@ pub record IsSound (store : Store) : Type 0 where
   pub samples : All (IsValid store.space) store.samples.items
   pub few_samples : length store.samples.items ≤ SAMPLE_LIMIT
   pub pivots : ArePivots (IsValid store.space) store.pivots.items
-  pub rows : All (HasRows store.space store.pivots.items) store.tables
+  pub rows : All (AreRows (IsValid store.space) (dist store.space) store.pivots.items) store.tables
   pub room : sum_by length store.tables ≤ MEMORY_CAP
   pub four : length store.tables ≡ 4
   pub none_yet : store.sampling ≡ true → All (λ (rows : List Row). rows ≡ []) store.tables

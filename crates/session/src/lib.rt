@@ -1,9 +1,10 @@
 //! A session: one reply after the other, from one state to the next.
 //!
-//! Ranges, nearest objects and joins are answered with few distances, by the vectors of distances to the
-//! pivots. The pivots are chosen where the samples close, at the first command that isn't a sample.
+//! Ranges, nearest objects and joins are answered with few distances, by the distances to the pivots. The
+//! pivots are chosen when the samples close, at the first command that isn't a sample.
 #![tactic(auto)]
 
+mod lines;
 mod mem_session;
 mod pivots;
 mod queries;

@@ -9,6 +9,9 @@ use std::alloc::Global;
 use std::marker::Model;
 use thiserror::Error;
 
+#[cfg(test)]
+mod tests;
+
 /// Why a session gives no more replies.
 #[derive(Clone, Copy, Debug, PartialEq, Eq, Drop, Error)]
 pub enum Ending {
@@ -33,28 +36,29 @@ impl<M: Metric> Model for MemSession<M> {
 
     ghost Value = { Session };
 
-    ghost use Rattle.session.specs.Measures.{Measures};
+    ghost use Rattle.spb_defs.specs.Measures.{IsMetricOf};
     ghost use Rattle.session.specs.Store.{IsSound, state_of};
 
     ghost view = { λ s. record { state = state_of s.store; ended = s.ended } };
 
-    ghost invariant = { λ s. IsSound s.store × Measures (M.admitted s.metric) (M.dist s.metric) s.store.space };
+    ghost invariant = { λ s. IsSound s.store × IsMetricOf (M.admitted s.metric) (M.dist s.metric) s.store.space };
 }
 
 impl<M: Metric> MemSession<M> {
-    ghost use Rattle.std.specs.Prelude.{◌≡◌, ◌+◌, ◌^◌, ◌<◌, ◌≤◌, false, IsTrue, IfOk};
+    ghost use Rattle.std.specs.Prelude.{◌≡◌, ◌+◌, ◌^◌, ◌<◌, ◌≤◌, false, Err, IsTrue, IfOk};
     ghost use Rattle.metrics_builtin.specs.Space.{fits};
     ghost use Rattle.spb_edge.specs.declared.reader.Line.{Line};
     ghost use Rattle.spb_defs.specs.State.{empty_in_memory};
-    ghost use Rattle.session.specs.Measures.{Measures};
+    ghost use Rattle.spb_defs.specs.Measures.{IsMetricOf};
     ghost use Rattle.spb_defs.specs.Step.{evals_of};
     ghost use Rattle.session.specs.Session.{Answers};
+    ghost use Rattle.session.specs.declared.mem_session.Ending.{Ending};
 
     /// A session over an empty store of the space, which `metric` measures. So many pivots are wanted, 0 to
     /// 8. It takes no memory.
     pub fn new(alloc: Global, space: Space, metric: M, pivots: u8) -> Result<MemSession<M>, Memory>
         requires fits { IsTrue (fits space) }
-        requires measures { Measures (M.admitted metric) (M.dist metric) space }
+        requires metric { IsMetricOf (M.admitted metric) (M.dist metric) space }
         requires few { pivots ≤ 8 }
         ensures { IfOk result (λ s. s ≡ record { state = empty_in_memory space pivots; ended = false }) }
     {
@@ -65,17 +69,21 @@ impl<M: Metric> MemSession<M> {
         })
     }
 
-    /// What the line is answered, and the session after it. After an [`Ending`] each later turn answers
-    /// [`Ending::Spent`].
+    /// The reply to the line, and the session after it.
     ///
-    /// A range, a question for the nearest and a join are measured by `ruler`, as often as the reply says.
-    /// The choice of the pivots, at the first command that isn't a sample, and the vector of an added object
-    /// are measured by the session itself.
+    /// A range, a query for the nearest and a join are measured by `ruler`, as often as the reply says, which
+    /// is at most 2^32 times. The choice of the pivots, at the first command that isn't a sample, and the
+    /// distances of an added object are measured by the session itself.
     ///
     /// An addition, a removal and a look-up take time in the logarithm of the number of objects, and an
     /// addition its distances to the pivots; a count takes none. A range passes over the rows of one
-    /// collection once, a question for the nearest also sorts them, and a join passes over the pairs. The
-    /// session keeps memory for samples, pivots and rows, and a turn takes it for its answer.
+    /// collection once, a query for the nearest also puts them in order, and a join passes over the pairs.
+    /// The session keeps memory for samples, pivots and rows, and a turn takes it for its answer.
+    ///
+    /// # Errors
+    ///
+    /// [`Ending::NoMemory`] if memory runs out, after which the ruler may have measured; and from then on
+    /// [`Ending::Spent`] at each turn, which changes nothing.
     pub fn turn<R: Ruler>(
         &mut self,
         alloc: Global,
@@ -83,11 +91,15 @@ impl<M: Metric> MemSession<M> {
         line: &Line,
     ) -> Result<Reply, Ending>
         requires line { line.now ≡ Line.End → ⊥ }
-        requires ruler { Measures (R.admitted (R.kind ruler.old)) (R.dist (R.kind ruler.old)) self.old.state.space }
+        requires ruler { IsMetricOf (R.admitted (R.kind ruler.old)) (R.dist (R.kind ruler.old)) self.old.state.space }
         requires room { R.count ruler.old < 2 ^ 63 }
         ensures answers { Answers result self.old line.now self.new }
+        ensures space { self.new.state.space ≡ self.old.state.space }
         ensures kind { R.kind ruler.new ≡ R.kind ruler.old }
+        ensures rises { R.count ruler.old ≤ R.count ruler.new }
         ensures count { IfOk result (λ said. R.count ruler.new ≡ R.count ruler.old + evals_of said) }
+        ensures few { IfOk result (λ said. evals_of said ≤ 2 ^ 32) }
+        ensures spent { result ≡ Err Ending.Spent → ruler.new ≡ ruler.old }
     {
         if self.ended {
             return Err(Ending::Spent);

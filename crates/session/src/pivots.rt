@@ -3,14 +3,13 @@ ghost use Rattle.std.specs.Prelude.{◌≡◌, ◌<◌, ◌≤◌, ℕ, length, 
 ghost use Rattle.metrics_builtin.specs.declared.Space.{Space};
 ghost use Rattle.metrics_builtin.specs.Space.{dist, IsValid};
 ghost use Rattle.spb_defs.specs.Choice.{sample_at, chosen_samples};
-ghost use Rattle.session.specs.Measures.{Measures};
 
 use metric_laws::{Counted, Metric};
 use pivot_choice::choose;
 use spb_edge::{Bytes, Memory};
 use std::alloc::Global;
 
-/// Copies of the samples that are chosen as pivots: as many as are wanted, or all where there are fewer.
+/// Copies of the samples that are chosen as pivots: as many as are wanted, or all if there are fewer.
 /// It takes as many distances as the choice does, and memory for the choice and for the copies.
 pub(crate) fn chosen_pivots<M: Metric>(
     alloc: Global,

@@ -1,7 +1,9 @@
 //! The store in memory.
 
+use crate::lines::read_line;
 use crate::pivots::chosen_pivots;
-use cmd_grammar::{Command, LineError, Reply, read_command};
+use crate::queries::{join_of, near_of, range_of};
+use cmd_grammar::{Command, Reply};
 use metric_laws::{Counted, Metric, Ruler};
 use metrics_builtin::Space;
 use pivot_map::{Row, map_object};
@@ -16,10 +18,10 @@ use std::alloc::Global;
 pub(crate) struct Store {
     pub(crate) space: Space,
     wanted: u8,
-    pub(crate) pivots: Vec<Bytes>,
+    pivots: Vec<Bytes>,
     samples: Vec<Bytes>,
-    pub(crate) sampling: bool,
-    pub(crate) tables: [RowTable; 4],
+    sampling: bool,
+    tables: [RowTable; 4],
 }
 
 impl Store {
@@ -27,12 +29,13 @@ impl Store {
     ghost use Rattle.metrics_builtin.specs.Space.{fits, IsValid};
     ghost use Rattle.spb_edge.specs.declared.reader.Line.{Line};
     ghost use Rattle.spb_defs.specs.declared.Command.{Command};
+    ghost use Rattle.spb_defs.specs.Measures.{IsMetricOf};
     ghost use Rattle.spb_defs.specs.State.{closed, empty_in_memory};
-    ghost use Rattle.spb_defs.specs.Step.{reply_to, after, reply, next, evals_of};
+    ghost use Rattle.spb_defs.specs.Step.{acted_on, reply_of, changed_by, reply_to, after, reply, next, evals_of};
     ghost use Rattle.cmd_grammar.specs.ReadsCommand.{IsProper};
     ghost use Rattle.cmd_grammar.specs.HoldsObject.{HoldsObject};
-    ghost use Rattle.session.specs.Measures.{Measures};
-    ghost use Rattle.session.specs.Store.{IsSound, IsReady, state_of, readied, rows_at, with_member};
+    ghost use Rattle.session.specs.Store.{IsSound, IsReady, state_of, with_member};
+    ghost use Rattle.row_table.specs.Members.{rows_at};
     ghost use Rattle.row_table.specs.Tables.{row_with};
     ghost use Rattle.spb_defs.specs.declared.TheConstants.{MEMORY_CAP};
 
@@ -58,8 +61,7 @@ impl Store {
         }
     }
 
-    /// What the line is answered, and the store after it.
-    #[tactic(auto, unfolding(spb_defs::specs::Step::reply, spb_defs::specs::Step::next))]
+    /// The reply to the line, and the store after it.
     pub(crate) fn turn<M: Metric, R: Ruler>(
         &mut self,
         alloc: Global,
@@ -68,29 +70,27 @@ impl Store {
         line: &Line,
     ) -> Result<Reply, Memory>
         requires sound { IsSound self.old }
-        requires measures { Measures (M.admitted metric.now) (M.dist metric.now) self.old.space }
-        requires ruler { Measures (R.admitted (R.kind ruler.old)) (R.dist (R.kind ruler.old)) self.old.space }
-        requires count { R.count ruler.old < 2 ^ 63 }
-        ensures reply { IfOk result (λ r. r ≡ reply (state_of self.old) line.now) }
-        ensures object { IfOk result (λ r. HoldsObject self.old.space r) }
-        ensures count { IfOk result (λ r. R.count ruler.new ≡ R.count ruler.old + evals_of r) }
-        ensures kind { R.kind ruler.new ≡ R.kind ruler.old }
+        requires metric { IsMetricOf (M.admitted metric.now) (M.dist metric.now) self.old.space }
+        requires ruler { IsMetricOf (R.admitted (R.kind ruler.old)) (R.dist (R.kind ruler.old)) self.old.space }
+        requires room { R.count ruler.old < 2 ^ 63 }
+        ensures reply { IfOk result (λ said. said ≡ reply (state_of self.old) line.now) }
         ensures next { OnOk result (state_of self.new ≡ next (state_of self.old) line.now) }
+        ensures object { IfOk result (λ said. HoldsObject self.old.space said) }
+        ensures few { IfOk result (λ said. evals_of said ≤ 2 ^ 32) }
+        ensures count { IfOk result (λ said. R.count ruler.new ≡ R.count ruler.old + evals_of said) }
+        ensures rises { R.count ruler.old ≤ R.count ruler.new }
+        ensures kind { R.kind ruler.new ≡ R.kind ruler.old }
         ensures space { self.new.space ≡ self.old.space }
         ensures sound { IsSound self.new }
     {
-        let Line::Text(text) = line else {
-            return Ok(Reply::Long);
-        };
-        match read_command(alloc, &self.space, text.as_slice()) {
-            Ok(command) => self.answer(alloc, metric, ruler, command),
-            Err(LineError::Bad(failed)) => Ok(Reply::Bad(failed)),
-            Err(LineError::Memory) => Err(Memory),
+        match read_line(alloc, &self.space, line)? {
+            Ok(command) => self.execute(alloc, metric, ruler, command),
+            Err(refusal) => Ok(refusal),
         }
     }
 
-    /// What the command is answered, and the store after it.
-    fn answer<M: Metric, R: Ruler>(
+    /// The reply to the command, and the store after it.
+    fn execute<M: Metric, R: Ruler>(
         &mut self,
         alloc: Global,
         metric: &M,
@@ -98,23 +98,25 @@ impl Store {
         command: Command,
     ) -> Result<Reply, Memory>
         requires sound { IsSound self.old }
-        requires measures { Measures (M.admitted metric.now) (M.dist metric.now) self.old.space }
-        requires ruler { Measures (R.admitted (R.kind ruler.old)) (R.dist (R.kind ruler.old)) self.old.space }
-        requires count { R.count ruler.old < 2 ^ 63 }
+        requires metric { IsMetricOf (M.admitted metric.now) (M.dist metric.now) self.old.space }
+        requires ruler { IsMetricOf (R.admitted (R.kind ruler.old)) (R.dist (R.kind ruler.old)) self.old.space }
+        requires room { R.count ruler.old < 2 ^ 63 }
         requires proper { IsProper self.old.space command }
-        ensures reply { IfOk result (λ r. r ≡ reply_to (state_of self.old) command) }
-        ensures object { IfOk result (λ r. HoldsObject self.old.space r) }
-        ensures count { IfOk result (λ r. R.count ruler.new ≡ R.count ruler.old + evals_of r) }
-        ensures kind { R.kind ruler.new ≡ R.kind ruler.old }
+        ensures reply { IfOk result (λ said. said ≡ reply_to (state_of self.old) command) }
         ensures next { OnOk result (state_of self.new ≡ after (state_of self.old) command) }
+        ensures object { IfOk result (λ said. HoldsObject self.old.space said) }
+        ensures few { IfOk result (λ said. evals_of said ≤ 2 ^ 32) }
+        ensures count { IfOk result (λ said. R.count ruler.new ≡ R.count ruler.old + evals_of said) }
+        ensures rises { R.count ruler.old ≤ R.count ruler.new }
+        ensures kind { R.kind ruler.new ≡ R.kind ruler.old }
         ensures space { self.new.space ≡ self.old.space }
         ensures sound { IsSound self.new }
     {
         self.make_ready(alloc, metric, &command)?;
-        self.answer_ready(alloc, metric, ruler, command)
+        self.execute_ready(alloc, metric, ruler, command)
     }
 
-    /// Closes the samples, unless the command is a sample.
+    /// Closes the samples, unless the command is a sample. If memory runs out nothing changes.
     fn make_ready<M: Metric>(
         &mut self,
         alloc: Global,
@@ -122,8 +124,8 @@ impl Store {
         command: &Command,
     ) -> Result<(), Memory>
         requires sound { IsSound self.old }
-        requires measures { Measures (M.admitted metric.now) (M.dist metric.now) self.old.space }
-        ensures readied { OnOk result (state_of self.new ≡ readied (state_of self.old) command.now) }
+        requires metric { IsMetricOf (M.admitted metric.now) (M.dist metric.now) self.old.space }
+        ensures acted_on { OnOk result (state_of self.new ≡ acted_on (state_of self.old) command.now) }
         ensures ready { OnOk result (IsReady self.new.sampling command.now) }
         ensures space { self.new.space ≡ self.old.space }
         ensures sound { IsSound self.new }
@@ -140,8 +142,9 @@ impl Store {
         }
     }
 
-    /// What the command is answered, and the store after it, where the samples are closed if it needs that.
-    fn answer_ready<M: Metric, R: Ruler>(
+    /// The reply to the command, and the store after it. The samples are closed, unless it is a sample.
+    #[tactic(auto, unfolding(spb_defs::specs::Step::changed_by))]
+    fn execute_ready<M: Metric, R: Ruler>(
         &mut self,
         alloc: Global,
         metric: &M,
@@ -149,16 +152,17 @@ impl Store {
         command: Command,
     ) -> Result<Reply, Memory>
         requires sound { IsSound self.old }
-        requires measures { Measures (M.admitted metric.now) (M.dist metric.now) self.old.space }
-        requires ruler { Measures (R.admitted (R.kind ruler.old)) (R.dist (R.kind ruler.old)) self.old.space }
-        requires count { R.count ruler.old < 2 ^ 63 }
+        requires metric { IsMetricOf (M.admitted metric.now) (M.dist metric.now) self.old.space }
+        requires ruler { IsMetricOf (R.admitted (R.kind ruler.old)) (R.dist (R.kind ruler.old)) self.old.space }
+        requires room { R.count ruler.old < 2 ^ 63 }
         requires proper { IsProper self.old.space command }
         requires ready { IsReady self.old.sampling command }
-        ensures reply { IfOk result (λ r. r ≡ reply_to (state_of self.old) command) }
-        ensures object { IfOk result (λ r. HoldsObject self.old.space r) }
-        ensures count { IfOk result (λ r. R.count ruler.new ≡ R.count ruler.old + evals_of r) }
+        ensures reply { IfOk result (λ said. said ≡ reply_of (state_of self.old) command) }
+        ensures next { OnOk result (state_of self.new ≡ changed_by (state_of self.old) command) }
+        ensures object { IfOk result (λ said. HoldsObject self.old.space said) }
+        ensures count { IfOk result (λ said. R.count ruler.new ≡ R.count ruler.old + evals_of said) }
+        ensures rises { R.count ruler.old ≤ R.count ruler.new }
         ensures kind { R.kind ruler.new ≡ R.kind ruler.old }
-        ensures next { OnOk result (state_of self.new ≡ after (state_of self.old) command) }
         ensures space { self.new.space ≡ self.old.space }
         ensures sound { IsSound self.new }
     {
@@ -174,11 +178,11 @@ impl Store {
         }
     }
 
-    /// Closes the samples, where they are open: the pivots are chosen from them. Where memory runs out
-    /// nothing changes.
+    /// Closes the samples, if they are open: the pivots are chosen from them. If memory runs out nothing
+    /// changes.
     fn close<M: Metric>(&mut self, alloc: Global, metric: &M) -> Result<(), Memory>
         requires sound { IsSound self.old }
-        requires measures { Measures (M.admitted metric.now) (M.dist metric.now) self.old.space }
+        requires metric { IsMetricOf (M.admitted metric.now) (M.dist metric.now) self.old.space }
         ensures closed { OnOk result (state_of self.new ≡ closed (state_of self.old)) }
         ensures sampling { OnOk result (self.new.sampling ≡ false) }
         ensures space { self.new.space ≡ self.old.space }
@@ -198,10 +202,10 @@ impl Store {
     fn sample(&mut self, object: Bytes) -> Result<Reply, Memory>
         requires sound { IsSound self.old }
         requires object { IsValid self.old.space object }
-        ensures reply { IfOk result (λ r. r ≡ reply_to (state_of self.old) (Command.Sample object)) }
-        ensures object { IfOk result (λ r. HoldsObject self.old.space r) }
-        ensures unmeasured { IfOk result (λ r. evals_of r ≡ 0) }
-        ensures next { OnOk result (state_of self.new ≡ after (state_of self.old) (Command.Sample object)) }
+        ensures reply { IfOk result (λ said. said ≡ reply_of (state_of self.old) (Command.Sample object)) }
+        ensures next { OnOk result (state_of self.new ≡ changed_by (state_of self.old) (Command.Sample object)) }
+        ensures object { IfOk result (λ said. HoldsObject self.old.space said) }
+        ensures unmeasured { IfOk result (λ said. evals_of said ≡ 0) }
         ensures space { self.new.space ≡ self.old.space }
         ensures sound { IsSound self.new }
     {
@@ -227,14 +231,14 @@ impl Store {
     /// the pivots, and time in the logarithm of the number of objects.
     fn add<M: Metric>(&mut self, metric: &M, c: u8, id: u32, object: Bytes) -> Result<Reply, Memory>
         requires sound { IsSound self.old }
-        requires measures { Measures (M.admitted metric.now) (M.dist metric.now) self.old.space }
+        requires metric { IsMetricOf (M.admitted metric.now) (M.dist metric.now) self.old.space }
         requires closed { self.old.sampling ≡ false }
         requires collection { c < 4 }
         requires object { IsValid self.old.space object }
-        ensures reply { IfOk result (λ r. r ≡ reply_to (state_of self.old) (Command.Add c id object)) }
-        ensures object { IfOk result (λ r. HoldsObject self.old.space r) }
-        ensures unmeasured { IfOk result (λ r. evals_of r ≡ 0) }
-        ensures next { OnOk result (state_of self.new ≡ after (state_of self.old) (Command.Add c id object)) }
+        ensures reply { IfOk result (λ said. said ≡ reply_of (state_of self.old) (Command.Add c id object)) }
+        ensures next { OnOk result (state_of self.new ≡ changed_by (state_of self.old) (Command.Add c id object)) }
+        ensures object { IfOk result (λ said. HoldsObject self.old.space said) }
+        ensures unmeasured { IfOk result (λ said. evals_of said ≡ 0) }
         ensures space { self.new.space ≡ self.old.space }
         ensures sound { IsSound self.new }
     {
@@ -248,13 +252,13 @@ impl Store {
         Ok(Reply::Done)
     }
 
-    /// Adds a row for the object to a collection that doesn't have the id, where there is room.
+    /// Adds a row for the object to a collection that doesn't have the id, while there is room.
     fn put<M: Metric>(&mut self, metric: &M, c: u8, id: u32, object: Bytes) -> Result<(), Memory>
         requires sound { IsSound self.old }
-        requires measures { Measures (M.admitted metric.now) (M.dist metric.now) self.old.space }
+        requires metric { IsMetricOf (M.admitted metric.now) (M.dist metric.now) self.old.space }
         requires collection { c < 4 }
         requires object { IsValid self.old.space object }
-        requires open { self.old.sampling ≡ false }
+        requires closed { self.old.sampling ≡ false }
         requires new { row_with id (rows_at self.old.tables c) ≡ None }
         requires room { sum_by length self.old.tables < MEMORY_CAP }
         ensures members { OnOk result (state_of self.new ≡ with_member (state_of self.old) c id object) }
@@ -273,10 +277,10 @@ impl Store {
         requires sound { IsSound self.old }
         requires closed { self.old.sampling ≡ false }
         requires collection { c < 4 }
-        ensures reply { result ≡ reply_to (state_of self.old) (Command.Discard c id) }
+        ensures reply { result ≡ reply_of (state_of self.old) (Command.Discard c id) }
+        ensures next { state_of self.new ≡ changed_by (state_of self.old) (Command.Discard c id) }
         ensures object { HoldsObject self.old.space result }
         ensures unmeasured { evals_of result ≡ 0 }
-        ensures next { state_of self.new ≡ after (state_of self.old) (Command.Discard c id) }
         ensures space { self.new.space ≡ self.old.space }
         ensures sound { IsSound self.new }
     {
@@ -291,12 +295,10 @@ impl Store {
     /// and memory for a copy.
     fn get(&self, alloc: Global, c: u8, id: u32) -> Result<Reply, Memory>
         requires sound { IsSound self.now }
-        requires closed { self.now.sampling ≡ false }
         requires collection { c < 4 }
-        ensures reply { IfOk result (λ r. r ≡ reply_to (state_of self.now) (Command.Get c id)) }
-        ensures object { IfOk result (λ r. HoldsObject self.now.space r) }
-        ensures unmeasured { IfOk result (λ r. evals_of r ≡ 0) }
-        ensures next { after (state_of self.now) (Command.Get c id) ≡ state_of self.now }
+        ensures reply { IfOk result (λ said. said ≡ reply_of (state_of self.now) (Command.Get c id)) }
+        ensures object { IfOk result (λ said. HoldsObject self.now.space said) }
+        ensures unmeasured { IfOk result (λ said. evals_of said ≡ 0) }
     {
         match self.tables[c as usize].find(id) {
             Some(row) => Ok(Reply::Object(Bytes::of(alloc, row.object.as_slice())?)),
@@ -307,13 +309,85 @@ impl Store {
     /// How many objects the collection has.
     fn count(&self, c: u8) -> Reply
         requires sound { IsSound self.now }
-        requires closed { self.now.sampling ≡ false }
         requires collection { c < 4 }
-        ensures reply { result ≡ reply_to (state_of self.now) (Command.Count c) }
+        ensures reply { result ≡ reply_of (state_of self.now) (Command.Count c) }
         ensures object { HoldsObject self.now.space result }
         ensures unmeasured { evals_of result ≡ 0 }
-        ensures next { after (state_of self.now) (Command.Count c) ≡ state_of self.now }
     {
         Reply::Count(self.tables[c as usize].len() as u32)
+    }
+
+    /// The ids of the collection within the radius.
+    fn range<R: Ruler>(
+        &self,
+        alloc: Global,
+        ruler: &mut R,
+        c: u8,
+        radius: u32,
+        query: &Bytes,
+    ) -> Result<Reply, Memory>
+        requires sound { IsSound self.now }
+        requires ruler { IsMetricOf (R.admitted (R.kind ruler.old)) (R.dist (R.kind ruler.old)) self.now.space }
+        requires room { R.count ruler.old < 2 ^ 63 }
+        requires collection { c < 4 }
+        requires query { IsValid self.now.space query.now }
+        ensures reply { IfOk result (λ said. said ≡ reply_of (state_of self.now) (Command.Range c radius query.now)) }
+        ensures object { IfOk result (λ said. HoldsObject self.now.space said) }
+        ensures count { IfOk result (λ said. R.count ruler.new ≡ R.count ruler.old + evals_of said) }
+        ensures rises { R.count ruler.old ≤ R.count ruler.new }
+        ensures kind { R.kind ruler.new ≡ R.kind ruler.old }
+    {
+        let rows = self.tables[c as usize].rows();
+        range_of(alloc, rows, self.pivots.as_slice(), ruler, c, radius, query)
+    }
+
+    /// The `k` nearest of the collection, by distance and then by id.
+    fn near<R: Ruler>(
+        &self,
+        alloc: Global,
+        ruler: &mut R,
+        c: u8,
+        k: u32,
+        query: &Bytes,
+    ) -> Result<Reply, Memory>
+        requires sound { IsSound self.now }
+        requires ruler { IsMetricOf (R.admitted (R.kind ruler.old)) (R.dist (R.kind ruler.old)) self.now.space }
+        requires room { R.count ruler.old < 2 ^ 63 }
+        requires collection { c < 4 }
+        requires some { 1 ≤ k }
+        requires query { IsValid self.now.space query.now }
+        ensures reply { IfOk result (λ said. said ≡ reply_of (state_of self.now) (Command.Near c k query.now)) }
+        ensures object { IfOk result (λ said. HoldsObject self.now.space said) }
+        ensures count { IfOk result (λ said. R.count ruler.new ≡ R.count ruler.old + evals_of said) }
+        ensures rises { R.count ruler.old ≤ R.count ruler.new }
+        ensures kind { R.kind ruler.new ≡ R.kind ruler.old }
+    {
+        let rows = self.tables[c as usize].rows();
+        near_of(alloc, rows, self.pivots.as_slice(), ruler, c, k, query)
+    }
+
+    /// The pairs of an id of collection `c` and one of `d` within the radius of each other.
+    fn join<R: Ruler>(
+        &self,
+        alloc: Global,
+        ruler: &mut R,
+        c: u8,
+        d: u8,
+        radius: u32,
+    ) -> Result<Reply, Memory>
+        requires sound { IsSound self.now }
+        requires ruler { IsMetricOf (R.admitted (R.kind ruler.old)) (R.dist (R.kind ruler.old)) self.now.space }
+        requires room { R.count ruler.old < 2 ^ 63 }
+        requires left { c < 4 }
+        requires right { d < 4 }
+        ensures reply { IfOk result (λ said. said ≡ reply_of (state_of self.now) (Command.Join c d radius)) }
+        ensures object { IfOk result (λ said. HoldsObject self.now.space said) }
+        ensures count { IfOk result (λ said. R.count ruler.new ≡ R.count ruler.old + evals_of said) }
+        ensures rises { R.count ruler.old ≤ R.count ruler.new }
+        ensures kind { R.kind ruler.new ≡ R.kind ruler.old }
+    {
+        let left = self.tables[c as usize].rows();
+        let right = self.tables[d as usize].rows();
+        join_of(alloc, left, right, self.pivots.as_slice(), ruler, c, d, radius)
     }
 }

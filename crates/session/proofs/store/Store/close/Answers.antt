@@ -1,8 +1,6 @@
-use Rattle.std.proofs.Common.{◌≡◌, length, ap, ◌∙◌}
+use Rattle.std.proofs.Common.{◌≡◌, ℕ, List, length, ap, ◌∙◌}
 use Rattle.std.specs.Prelude.{min}
-use Rattle.metrics_builtin.specs.Space.{IsValid, dist}
 use Rattle.spb_defs.specs.Choice.{chosen_samples}
-use Rattle.scan_laws.specs.Agree.{chosen_samples-agrees}
 use Rattle.session.proofs.Sound.{closed_by}
 use Rattle.session.proofs.store.Store.close.Goals as goal
 
@@ -13,4 +11,4 @@ returns-clause-closed g c =
     c.in_ok-pivots.ensures.pivots
     ∙ ap (λ samples. chosen_samples (g.M.Metric.dist c.args.metric.now) samples (min store.wanted (length samples))) c.as_slice.ensures.value in
     closed_by store c.in_ok-pivots.pivots.items c.if-not-self.false
-    (chosen ∙ chosen_samples-agrees (IsValid store.space) (g.M.Metric.dist c.args.metric.now) (dist store.space) c.requires.measures.agrees store.samples.items (min store.wanted (length store.samples.items)) c.requires.sound.samples)
+    (chosen ∙ ap (λ (f : List ℕ → List ℕ → ℕ). chosen_samples f store.samples.items (min store.wanted (length store.samples.items))) c.requires.metric.distance_is)

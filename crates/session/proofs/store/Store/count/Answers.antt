@@ -4,10 +4,5 @@ use Rattle.session.proofs.store.Store.count.Goals as goal
 
 pub returns-clause-reply : goal.returns-clause-reply
 returns-clause-reply c =
-    let many = c.len.ensures ∙ ap length (at_place c.args.self.now c.requires.sound c.requires.closed c.args.c c.requires.collection c.index-self-c.result) in
-    sym (counted_in c.args.self.now c.requires.sound c.requires.closed c.args.c c.requires.collection c.len.result many).0
-
-pub returns-clause-next : goal.returns-clause-next
-returns-clause-next c =
-    let many = c.len.ensures ∙ ap length (at_place c.args.self.now c.requires.sound c.requires.closed c.args.c c.requires.collection c.index-self-c.result) in
-    (counted_in c.args.self.now c.requires.sound c.requires.closed c.args.c c.requires.collection c.len.result many).1
+    sym (counted_in c.args.self.now c.requires.sound c.args.c c.requires.collection c.len.result
+    (c.len.ensures ∙ ap length (at_place c.args.self.now c.requires.sound c.args.c c.requires.collection c.index-self-c.result)))
