@@ -1,6 +1,5 @@
--- What a run keeps from line to line: what was written so far, and that the replies to what is left
--- complete it.
-use Rattle.std.proofs.Common.{◌≡◌, ℕ, ◌+◌, ◌^◌, ◌≤◌, List, [], ◌∷◌, ◌++◌, length, take, drop, Option, Some, None, Result, Ok, Err, inl, inr, refl, sym, ap, subst, ◌∙◌, append-nil, append_assoc, length-append, arith}
+-- What a run keeps from line to line: what was written so far, and that the replies to what is left complete it.
+use Rattle.std.proofs.Common.{◌≡◌, ℕ, ◌+◌, ◌^◌, ◌<◌, ◌≤◌, List, [], ◌∷◌, ◌++◌, length, take, drop, Option, Some, None, Result, Ok, Err, inl, inr, refl, sym, ap, subst, ◌∙◌, append-nil, append_assoc, length-append, arith}
 use Rattle.std.specs.Prelude.{Bool, false, IfSome, IsTrue, ◌⊎◌}
 use Rattle.std.proofs.lemmas.Bool.{false≢true}
 use Rattle.std.proofs.lemmas.List.{take_at, take-append-drop}
@@ -24,45 +23,75 @@ use Rattle.spb_defs.specs.ReplyText.{reply_text}
 use Rattle.spb_defs.specs.Play.{play_lines, play, play_ended}
 use Rattle.spb_edge.specs.Fault.{Rose}
 use Rattle.spb_top.specs.declared.status.Status.{Status}
-use Rattle.spb_top.specs.declared.status.Status.TheVariants.{Done}
-use Rattle.spb_top.specs.Run.{WritesFront, Writes, LeavesInput, HasCause, stopped_by}
+use Rattle.spb_top.specs.declared.status.Status.TheVariants.{Done, Usage, NoMemory, ReadFault, WriteFault, InputLimit}
+use Rattle.spb_top.specs.Run.{WritesFront, Writes, LeavesInput, Outside, NoneFell, NoneRose, HasCause, IsDoneOrNoMemory, outside_of, stopped_by}
+use Rattle.spb_top.specs.Turns.{Leads, Leads-nowhere, Leads-next}
 
 -- whatever follows the bytes that went, the replies to the lines that an LF ends begin with what was
 -- written: these bytes are whole lines
 abbrev pub AreWhole : List ℕ → State → List ℕ → State → Type 0
 AreWhole took first written now = (more : List ℕ) → play_ended first (took ++ more) ≡ written ++ play_ended now more
 
+-- how much of a script has gone: the bytes that went and those that are left, with their count
+pub record Gone {S : Type 0} {G : source.Ghosts S} (script : List ℕ) (reader : LineReader S G) : Type 0 where
+  pub took : List ℕ
+  pub left : List ℕ
+  pub split : script ≡ took ++ left
+  pub told : rest reader ≡ Some left
+  pub count : taken reader + length left ≡ length (unread reader) + length script
+
 -- what was written and the replies to what is left are the replies to the script. The bytes that went are
 -- whole lines, until the source has ended.
-pub record Completes (script : List ℕ) (first : State) (written left : List ℕ) (now : State) (ended : Bool) : Type 0 where
+pub record Completes (script : List ℕ) (first : State) (written took left : List ℕ) (now : State) (ended : Bool) : Type 0 where
   pub text : written ++ play_lines now (lines_of LINE_LIMIT left) ≡ play first script
-  pub took : List ℕ
-  pub split : script ≡ took ++ left
   pub whole : IsTrue ended ⊎ AreWhole took first written now
 
--- the same of a script that is told, with the count of its bytes
-abbrev pub Follows : {S : Type 0} {G : source.Ghosts S} → List ℕ → State → List ℕ → LineReader S G → State → Type 0
-Follows script first written reader now = (left : List ℕ) × (rest reader ≡ Some left) × Completes script first written left now (has_ended reader)
-    × (taken reader + length left ≡ length (unread reader) + length script)
+-- the same of a script that the reader tells at first
+abbrev pub Plays : {S : Type 0} {G : source.Ghosts S} → State → LineReader S G → LineReader S G → List ℕ → State → Type 0
+Plays first reader now written state = (script : List ℕ) → rest reader ≡ Some script → (gone : Gone script now) × Completes script first written gone.took gone.left state (has_ended now)
 
+-- ---- what a run keeps
+
+-- whatever state there is: what was written, and what has gone of the input
 module _ {S K : Type 0} (G : source.Ghosts S) (H : sink.Ghosts K) where
-  pub record Answering (first : State) (reader : LineReader S G) (output : K) (now : LineReader S G) (sink : K) (state : State) (written : List ℕ) : Type 0 where
+  pub record Serving (reader : LineReader S G) (output : K) (now : LineReader S G) (sink : K) (written : List ℕ) : Type 0 where
     pub wrote : H.taken sink ≡ told_then (H.taken output) written
-    pub follows : (script : List ℕ) → rest reader ≡ Some script → Follows script first written now state
+    pub gone : (script : List ℕ) → rest reader ≡ Some script → Gone script now
     pub is_open : IsOpen now
     pub source : faults reader ≤ faults now
     pub sink_faults : H.faults output ≤ H.faults sink
-    pub space : state.space ≡ first.space
 
-  -- before the first line
-  pub Answering-start : (first : State) (reader : LineReader S G) (output : K) → taken reader ≡ 0 → unread reader ≡ [] → has_ended reader ≡ false → Answering first reader output reader output first []
-  Answering-start first reader output none empty running = record {
+-- by the state from which the session began: it goes on from one that lines lead to, from which the replies are complete
+module _ {S T : Type 0} {G : source.Ghosts S} (holds : T → State → Type 0) (leaves : T → T → State → Type 0) where
+  pub record GoesOn (first : State) (session : T) (reader : LineReader S G) (session' : T) (now : LineReader S G) (written : List ℕ) : Type 0 where
+    pub state : State
+    pub leads : Leads first state
+    pub held : holds session' state
+    pub left : leaves session session' first
+    pub plays : Plays first reader now written state
+
+-- before the first line
+module _ {S : Type 0} {G : source.Ghosts S} (reader : LineReader S G) (none : taken reader ≡ 0) (empty : unread reader ≡ []) where
+  Gone-start : (script : List ℕ) → rest reader ≡ Some script → Gone script reader
+  Gone-start script told = record { took = []; left = script; split = refl; told = told; count = omega (arith, ap length empty, none) }
+
+  pub Serving-start : {K : Type 0} (H : sink.Ghosts K) (output : K) → has_ended reader ≡ false → Serving G H reader output reader output []
+  Serving-start H output running = record {
     wrote = sym (told_then-nil (H.taken output));
-    follows = λ script told. (script, told, record { text = refl; took = []; split = refl; whole = inr (λ more. refl) }, omega (arith, ap length empty, none));
+    gone = Gone-start;
     is_open = record { total = omega arith; ended = λ ended. absurd (false≢true (sym running ∙ ended)) };
     source = omega arith;
     sink_faults = omega arith;
-    space = refl;
+  }
+
+  pub GoesOn-start : {T : Type 0} (holds : T → State → Type 0) (leaves : T → T → State → Type 0) (session : T) (first : State) → holds session first → leaves session session first → GoesOn holds leaves first session reader session reader []
+  unfolding Gone-start
+  GoesOn-start holds leaves session first held left = record {
+    state = first;
+    leads = Leads-nowhere first;
+    held = held;
+    left = left;
+    plays = λ script told. (Gone-start script told, record { text = refl; whole = inr (λ more. refl) });
   }
 
 -- ---- what is left, from line to line
@@ -76,6 +105,11 @@ next_of line left None not_end at = absurd at
 next_of (Text text) left (Some left') not_end at = (left', refl, at)
 next_of Long left (Some left') not_end at = (left', refl, at)
 next_of End left (Some left') not_end at = absurd (not_end refl)
+
+-- none of those left comes where the stream has ended
+last_of : (left : List ℕ) (new : Option (List ℕ)) → IsNextLine LINE_LIMIT End (Some left) new → lines_of LINE_LIMIT left ≡ []
+last_of left None at = absurd at
+last_of left (Some left') at = at.0
 
 -- what is told begins with the front, and the rest is told too
 behind_told : (front left : List ℕ) (behind : Option (List ℕ)) → before_told front behind ≡ Some left → (back : List ℕ) × (behind ≡ Some back) × (left ≡ front ++ back)
@@ -106,6 +140,17 @@ module _ {S : Type 0} {G : source.Ghosts S} where
         omega (arith, length-append bytes at.0),
         unread_in (unread new) at.0 (G.left new.source.now) at.1,
       )
+
+  -- more bytes went
+  pub Gone-more : (script bytes : List ℕ) (now new : LineReader S G) → Gone script now → TakesOff now new bytes → Gone script new
+  Gone-more script bytes now new gone off =
+      let count = counts_off script gone.left bytes now new gone.told gone.count off in record {
+        took = gone.took ++ bytes;
+        left = count.0;
+        split = split_on script gone.took gone.left bytes count.0 gone.split count.2;
+        told = count.1;
+        count = count.3;
+      }
 
 -- ---- the bytes of whole lines
 
@@ -176,124 +221,135 @@ stopped_text edge.InputLimit first script written left' old new behind unread be
     (front, wrote ∙ ap (told_then old) (sym text ∙ ap (play_ended first) (sym within)))
 stopped_text edge.Memory first script written left' old new behind unread before now total front wrote cause told count is took = absurd (is refl)
 
-stopped_cause : (e : EdgeError) (source_before between source_now sink_before sink_now total : ℕ) (unread : List ℕ) (told : Option (List ℕ)) → source_before ≤ between → sink_before ≤ sink_now
-    → reads.HasCause (Err e) between source_now total (length unread)
-    → ((script : List ℕ) → told ≡ Some script → (left : List ℕ) × (total + length left ≡ length unread + length script) × (length unread ≤ length left))
-    → HasCause (stopped_by e) (record { source_before = source_before; source_now = source_now; sink_before = sink_before; sink_now = sink_now }) told
-stopped_cause edge.ReadFault source_before between source_now sink_before sink_now total unread told grew sink cause count =
-    (record { source = omega (arith, cause.0); sink = sink }, Rose-later source_before between source_now grew cause.1)
-stopped_cause edge.InputLimit source_before between source_now sink_before sink_now total unread told grew sink cause count =
-    (record { source = omega (arith, cause.0); sink = sink }, IfSome-from told (λ script is. let c = count script is in omega (arith, cause.1, cause.2, c.1, c.2)))
-stopped_cause edge.Memory source_before between source_now sink_before sink_now total unread told grew sink cause count = record { source = omega (arith, cause.0); sink = sink }
+stopped_cause : (e : EdgeError) (o : Outside) (between total : ℕ) (unread : List ℕ) → o.source.before ≤ between → o.sink.before ≤ o.sink.now → o.disk.before ≤ o.disk.now
+    → reads.HasCause (Err e) between o.source.now total (length unread)
+    → ((script : List ℕ) → o.told ≡ Some script → (left : List ℕ) × (total + length left ≡ length unread + length script) × (length unread ≤ length left))
+    → HasCause (stopped_by e) o
+stopped_cause edge.ReadFault o between total unread grew sink disk cause count =
+    (record { source = omega (arith, grew, cause.0); sink = sink; disk = disk }, Rose-later o.source.before between o.source.now grew cause.1)
+stopped_cause edge.InputLimit o between total unread grew sink disk cause count =
+    (record { source = omega (arith, grew, cause.0); sink = sink; disk = disk }, IfSome-from o.told (λ script is. let c = count script is in omega (arith, cause.1, cause.2, c.1, c.2)))
+stopped_cause edge.Memory o between total unread grew sink disk cause count = record { source = omega (arith, grew, cause.0); sink = sink; disk = disk }
 
--- a front of what a text is made of
+none_fell_beside : (o : Outside) (counted : ℕ) → NoneFell o → NoneFell (record o { disk = record { before = counted; now = counted } })
+none_fell_beside o counted fell = record { source = fell.source; sink = fell.sink; disk = omega arith }
+
+-- a cause stays one beside a disk that isn't touched, whatever it had counted
+pub cause_beside : (status : Status) (o : Outside) (counted : ℕ) → HasCause status o → HasCause status (record o { disk = record { before = counted; now = counted } })
+cause_beside Done o counted (fell, within) = (none_fell_beside o counted fell, within)
+cause_beside Usage o counted fell = none_fell_beside o counted fell
+cause_beside NoMemory o counted fell = none_fell_beside o counted fell
+cause_beside ReadFault o counted (fell, rose) = (none_fell_beside o counted fell, rose)
+cause_beside WriteFault o counted (fell, rose) = (none_fell_beside o counted fell, rose)
+cause_beside InputLimit o counted (fell, past) = (none_fell_beside o counted fell, past)
+
+-- where the words were in the grammar, no fault was counted and the input was within the limit, no other cause is left
+pub completed : (status : Status) (o : Outside) → (status ≡ Usage → ⊥) → HasCause status o → (script : List ℕ) → o.told ≡ Some script → length script ≤ 2 ^ 30 → NoneRose o → IsDoneOrNoMemory status
+completed Done o not_usage cause script told within none = tt
+completed Usage o not_usage cause script told within none = absurd (not_usage refl)
+completed NoMemory o not_usage cause script told within none = tt
+completed ReadFault o not_usage (fell, rose) script told within none = absurd (none.source rose)
+completed WriteFault o not_usage (fell, rose) script told within none = absurd (none.sink rose)
+completed InputLimit o not_usage (fell, past) script told within none =
+    let more : 2 ^ 30 < length script = subst (λ t. IfSome t (λ bytes. 2 ^ 30 < length bytes)) told past in absurd (omega (arith, more, within))
+
+-- a prefix of what a text is made of
 WritesFront-of : (old new : Option (List ℕ)) (written more text : List ℕ) → new ≡ told_then old written → written ++ more ≡ text → WritesFront old new text
 WritesFront-of old new written more text wrote whole =
     (length written, wrote ∙ ap (told_then old) (sym (take_at written more (length written) refl) ∙ ap (take (length written)) whole))
 
-module _ {S K : Type 0} (G : source.Ghosts S) (H : sink.Ghosts K) where
-  -- what was written so far is a front of the replies to the script
-  pub front_so_far : (first : State) (reader : LineReader S G) (output : K) (now : LineReader S G) (sink : K) (state : State) (written : List ℕ) → Answering G H first reader output now sink state written
-      → (script : List ℕ) → rest reader ≡ Some script → WritesFront (H.taken output) (H.taken sink) (play first script)
-  front_so_far first reader output now sink state written so script told =
-      let follows = so.follows script told in
-      WritesFront-of (H.taken output) (H.taken sink) written (play_lines state (lines_of LINE_LIMIT follows.0)) (play first script) so.wrote follows.2.text
+-- ---- by the state
 
-  -- one line was answered
-  pub Answering-line : (first : State) (reader : LineReader S G) (output : K) (now : LineReader S G) (sink : K) (state : State) (written : List ℕ) → Answering G H first reader output now sink state written
-      → (new : LineReader S G) (sink' : K) (state' : State) (line : Line) (text bytes : List ℕ) → (line ≡ End → ⊥) → IsNextLine LINE_LIMIT line (rest now) (rest new) → TakesOff now new bytes
-      → IsOpen new → (IsTrue (has_ended now) → EndsAgain (Ok line)) → IsLineAt LINE_LIMIT line bytes (rest new) (has_ended new) → faults now ≤ faults new → text ≡ reply_text state.space (reply state line) → state' ≡ next state line → H.taken sink' ≡ told_then (H.taken sink) text → H.faults sink ≤ H.faults sink' → state'.space ≡ state.space
-      → Answering G H first reader output new sink' state' (written ++ text)
-  Answering-line first reader output now sink state written so new sink' state' line text bytes not_end comes off is_open after how grew replies goes puts grew' stays =
-      let sofar = so.source in
-      let sofar' = so.sink_faults in record {
-        wrote = puts ∙ ap (λ t. told_then t text) so.wrote ∙ told_then-append (H.taken output) written text;
-        follows = λ script told.
-            let follows = so.follows script told in
-            let step = next_of line follows.0 (rest new) not_end (subst (λ o. IsNextLine LINE_LIMIT line o (rest new)) follows.1 comes) in
-            let count = counts_off script follows.0 bytes now new follows.1 follows.3 off in
-            let same : step.0 ≡ count.0 = some_is (sym step.1 ∙ count.1) in
-            let more : play_lines state (lines_of LINE_LIMIT follows.0) ≡ text ++ play_lines state' (lines_of LINE_LIMIT count.0) =
-            ap (play_lines state) step.2
-            ∙ ap (λ t. t ++ play_lines (next state line) (lines_of LINE_LIMIT step.0)) (sym replies)
-            ∙ ap (λ s. text ++ play_lines s (lines_of LINE_LIMIT step.0)) (sym goes)
-            ∙ ap (λ l. text ++ play_lines state' (lines_of LINE_LIMIT l)) same in (
-              count.0,
-              count.1,
-              record {
-                text = append_assoc written text (play_lines state' (lines_of LINE_LIMIT count.0)) ∙ ap (λ t. written ++ t) (sym more) ∙ follows.2.text;
-                took = follows.2.took ++ bytes;
-                split = split_on script follows.2.took follows.0 bytes count.0 follows.2.split count.2;
-                whole = whole_line follows.2.took first written state state' line text bytes (rest new) (has_ended now) (has_ended new) follows.2.whole (λ end. running line not_end (after end)) how replies goes;
-              },
-              count.3,
-            );
-        is_open = is_open;
-        source = omega arith;
-        sink_faults = omega arith;
-        space = stays ∙ so.space;
-      }
+module _ {S : Type 0} {G : source.Ghosts S} (first : State) (reader now : LineReader S G) (state : State) (written : List ℕ) (plays : Plays first reader now written state) where
+  -- what was written so far is a prefix of the replies to the script
+  pub front_so_far : (old new : Option (List ℕ)) → new ≡ told_then old written → (script : List ℕ) → rest reader ≡ Some script → WritesFront old new (play first script)
+  front_so_far old new wrote script told =
+      let (gone, completes) = plays script told in
+      WritesFront-of old new written (play_lines state (lines_of LINE_LIMIT gone.left)) (play first script) wrote completes.text
 
-  -- a front of a reply was written, and no more
-  pub front_of_reply : (first : State) (reader : LineReader S G) (output : K) (now : LineReader S G) (sink : K) (state : State) (written : List ℕ) → Answering G H first reader output now sink state written
-      → (new : LineReader S G) (sink' : K) (line : Line) (text : List ℕ) (n : ℕ) → (line ≡ End → ⊥) → IsNextLine LINE_LIMIT line (rest now) (rest new)
-      → text ≡ reply_text state.space (reply state line) → H.taken sink' ≡ told_then (H.taken sink) (take n text)
-      → (script : List ℕ) → rest reader ≡ Some script → WritesFront (H.taken output) (H.taken sink') (play first script)
-  front_of_reply first reader output now sink state written so new sink' line text n not_end comes replies puts script told =
-      let follows = so.follows script told in
-      let step = next_of line follows.0 (rest new) not_end (subst (λ o. IsNextLine LINE_LIMIT line o (rest new)) follows.1 comes) in
-      let behind = play_lines (next state line) (lines_of LINE_LIMIT step.0) in
-      let more : play_lines state (lines_of LINE_LIMIT follows.0) ≡ take n text ++ (drop n text ++ behind) =
-      ap (play_lines state) step.2 ∙ ap (λ t. t ++ behind) (sym replies ∙ sym (take-append-drop n text)) ∙ append_assoc (take n text) (drop n text) behind in
-      WritesFront-of (H.taken output) (H.taken sink') (written ++ take n text) (drop n text ++ behind) (play first script)
-      (puts ∙ ap (λ t. told_then t (take n text)) so.wrote ∙ told_then-append (H.taken output) written (take n text))
-      (append_assoc written (take n text) (drop n text ++ behind) ∙ ap (λ t. written ++ t) (sym more) ∙ follows.2.text)
+  module _ (new : LineReader S G) (line : Line) (text : List ℕ) (not_end : line ≡ End → ⊥) (comes : IsNextLine LINE_LIMIT line (rest now) (rest new)) (replies : text ≡ reply_text state.space (reply state line)) where
+    -- one line was answered
+    pub Plays-line : (bytes : List ℕ) → TakesOff now new bytes → (IsTrue (has_ended now) → EndsAgain (Ok line)) → IsLineAt LINE_LIMIT line bytes (rest new) (has_ended new)
+        → Plays first reader new (written ++ text) (next state line)
+    unfolding Gone-more
+    Plays-line bytes off after how script told =
+        let (gone, completes) = plays script told in
+        let gone' = Gone-more script bytes now new gone off in
+        let step = next_of line gone.left (rest new) not_end (subst (λ o. IsNextLine LINE_LIMIT line o (rest new)) gone.told comes) in
+        let same : step.0 ≡ gone'.left = some_is (sym step.1 ∙ gone'.told) in
+        let more : play_lines state (lines_of LINE_LIMIT gone.left) ≡ text ++ play_lines (next state line) (lines_of LINE_LIMIT gone'.left) =
+        ap (play_lines state) step.2
+        ∙ ap (λ t. t ++ play_lines (next state line) (lines_of LINE_LIMIT step.0)) (sym replies)
+        ∙ ap (λ l. text ++ play_lines (next state line) (lines_of LINE_LIMIT l)) same in (
+          gone',
+          record {
+            text = append_assoc written text (play_lines (next state line) (lines_of LINE_LIMIT gone'.left)) ∙ ap (λ t. written ++ t) (sym more) ∙ completes.text;
+            whole = whole_line gone.took first written state (next state line) line text bytes (rest new) (has_ended now) (has_ended new) completes.whole (λ end. running line not_end (after end)) how replies refl;
+          },
+        )
 
-  -- bytes that no LF ended came, and then a fault or the limit
-  text_cut : (first : State) (reader : LineReader S G) (output : K) (now : LineReader S G) (sink : K) (state : State) (written : List ℕ) → Answering G H first reader output now sink state written
-      → (new : LineReader S G) (bytes : List ℕ) → TakesOff now new bytes → (e : EdgeError) → reads.HasCause (Err e) (faults now) (faults new) (taken new) (length (unread new)) → HasNoLf bytes → (IsTrue (has_ended now) → ⊥) → (e ≡ edge.Memory → ⊥)
-      → (script : List ℕ) → rest reader ≡ Some script → Writes (stopped_by e) first script (G.left new.source.now) (H.taken output) (H.taken sink)
-  text_cut first reader output now sink state written so new bytes off e cause none not_ended not_memory script told =
-      let follows = so.follows script told in
-      let count = counts_off script follows.0 bytes now new follows.1 follows.3 off in
-      let whole = whole_of follows.2.took first written state (has_ended now) follows.2.whole not_ended in
-      stopped_text e first script written count.0 (H.taken output) (H.taken sink) (G.left new.source.now) (unread new) (faults now) (faults new) (taken new)
-      (front_so_far first reader output now sink state written so script told) so.wrote cause count.1 count.3 not_memory
-      (follows.2.took ++ bytes, split_on script follows.2.took follows.0 bytes count.0 follows.2.split count.2, whole_and_more follows.2.took first written bytes state whole none)
+    -- a prefix of a reply was written, and no more
+    pub front_of_reply : (old mid put : Option (List ℕ)) (n : ℕ) → mid ≡ told_then old written → put ≡ told_then mid (take n text) → (script : List ℕ) → rest reader ≡ Some script → WritesFront old put (play first script)
+    front_of_reply old mid put n wrote puts script told =
+        let (gone, completes) = plays script told in
+        let step = next_of line gone.left (rest new) not_end (subst (λ o. IsNextLine LINE_LIMIT line o (rest new)) gone.told comes) in
+        let behind = play_lines (next state line) (lines_of LINE_LIMIT step.0) in
+        let more : play_lines state (lines_of LINE_LIMIT gone.left) ≡ take n text ++ (drop n text ++ behind) =
+        ap (play_lines state) step.2 ∙ ap (λ t. t ++ behind) (sym replies ∙ sym (take-append-drop n text)) ∙ append_assoc (take n text) (drop n text) behind in
+        WritesFront-of old put (written ++ take n text) (drop n text ++ behind) (play first script)
+        (puts ∙ ap (λ t. told_then t (take n text)) wrote ∙ told_then-append old written (take n text))
+        (append_assoc written (take n text) (drop n text ++ behind) ∙ ap (λ t. written ++ t) (sym more) ∙ completes.text)
 
-  text_by : (first : State) (reader : LineReader S G) (output : K) (now : LineReader S G) (sink : K) (state : State) (written : List ℕ) → Answering G H first reader output now sink state written
-      → (new : LineReader S G) (bytes : List ℕ) → TakesOff now new bytes → (e : EdgeError) → reads.HasCause (Err e) (faults now) (faults new) (taken new) (length (unread new)) → HasNoLf bytes → (IsTrue (has_ended now) → EndsAgain (Err e))
-      → (script : List ℕ) → rest reader ≡ Some script → Writes (stopped_by e) first script (G.left new.source.now) (H.taken output) (H.taken sink)
-  text_by first reader output now sink state written so new bytes off edge.Memory cause none again script told = front_so_far first reader output now sink state written so script told
-  text_by first reader output now sink state written so new bytes off edge.ReadFault cause none again script told =
-      text_cut first reader output now sink state written so new bytes off edge.ReadFault cause none again (λ e. cc) script told
-  text_by first reader output now sink state written so new bytes off edge.InputLimit cause none again script told =
-      text_cut first reader output now sink state written so new bytes off edge.InputLimit cause none again (λ e. cc) script told
+  -- nothing is left: all of the replies were written
+  pub text_done : (new : LineReader S G) (old put : Option (List ℕ)) → put ≡ told_then old written → IsNextLine LINE_LIMIT End (rest now) (rest new) → (script : List ℕ) → rest reader ≡ Some script → put ≡ told_then old (play first script)
+  text_done new old put wrote comes script told =
+      let (gone, completes) = plays script told in
+      let none : lines_of LINE_LIMIT gone.left ≡ [] = last_of gone.left (rest new) (subst (λ o. IsNextLine LINE_LIMIT End o (rest new)) gone.told comes) in
+      wrote ∙ ap (told_then old) (sym (append-nil written) ∙ ap (λ lines. written ++ play_lines state lines) (sym none) ∙ completes.text)
 
-  -- no line came: the run ends with what stopped the reader
-  pub text_stopped : (first : State) (reader : LineReader S G) (output : K) (now : LineReader S G) (sink : K) (state : State) (written : List ℕ) → Answering G H first reader output now sink state written
-      → (new : LineReader S G) (bytes : List ℕ) → TakesOff now new bytes → (e : EdgeError) (r : Result Line EdgeError) → r ≡ Err e → reads.HasCause r (faults now) (faults new) (taken new) (length (unread new)) → Spells LINE_LIMIT r bytes (rest new) (has_ended new) → (IsTrue (has_ended now) → EndsAgain r) → (status : Status) → status ≡ stopped_by e
-      → (script : List ℕ) → rest reader ≡ Some script → Writes status first script (G.left new.source.now) (H.taken output) (H.taken sink)
-  text_stopped first reader output now sink state written so new bytes off e r failed cause spells after status is script told =
-      subst (λ s. Writes s first script (G.left new.source.now) (H.taken output) (H.taken sink)) (sym is)
-      (text_by first reader output now sink state written so new bytes off e
-      (subst (λ x. reads.HasCause x (faults now) (faults new) (taken new) (length (unread new))) failed cause)
-      (subst (λ x. Spells LINE_LIMIT x bytes (rest new) (has_ended new)) failed spells)
-      (λ end. subst EndsAgain failed (after end)) script told)
+  module _ (new : LineReader S G) (bytes : List ℕ) (off : TakesOff now new bytes) (old put : Option (List ℕ)) (wrote : put ≡ told_then old written) where
+    -- bytes that no LF ended came, and then a fault or the limit
+    text_cut : (e : EdgeError) → reads.HasCause (Err e) (faults now) (faults new) (taken new) (length (unread new)) → HasNoLf bytes → (IsTrue (has_ended now) → ⊥) → (e ≡ edge.Memory → ⊥)
+        → (script : List ℕ) → rest reader ≡ Some script → Writes (stopped_by e) first script (G.left new.source.now) old put
+    unfolding Gone-more
+    text_cut e cause none not_ended not_memory script told =
+        let (gone, completes) = plays script told in
+        let gone' = Gone-more script bytes now new gone off in
+        let whole = whole_of gone.took first written state (has_ended now) completes.whole not_ended in
+        stopped_text e first script written gone'.left old put (G.left new.source.now) (unread new) (faults now) (faults new) (taken new)
+        (front_so_far old put wrote script told) wrote cause gone'.told gone'.count not_memory
+        (gone'.took, gone'.split, whole_and_more gone.took first written bytes state whole none)
 
-  -- why the run ends with what stopped the reader
-  pub cause_stopped : (first : State) (reader : LineReader S G) (output : K) (now : LineReader S G) (sink : K) (state : State) (written : List ℕ) → Answering G H first reader output now sink state written
-      → (new : LineReader S G) (bytes : List ℕ) → TakesOff now new bytes → (e : EdgeError) (r : Result Line EdgeError) → r ≡ Err e → reads.HasCause r (faults now) (faults new) (taken new) (length (unread new)) → (status : Status) → status ≡ stopped_by e
-      → HasCause status (record { source_before = faults reader; source_now = faults new; sink_before = H.faults output; sink_now = H.faults sink }) (rest reader)
-  cause_stopped first reader output now sink state written so new bytes off e r failed cause status is =
-      let here = subst (λ x. reads.HasCause x (faults now) (faults new) (taken new) (length (unread new))) failed cause in
-      let count : (script : List ℕ) → rest reader ≡ Some script → (left : List ℕ) × (taken new + length left ≡ length (unread new) + length script) × (length (unread new) ≤ length left) = λ script told.
-      let follows = so.follows script told in
-      let off' = counts_off script follows.0 bytes now new follows.1 follows.3 off in (off'.0, off'.3, off'.4) in
-      subst (λ s. HasCause s (record { source_before = faults reader; source_now = faults new; sink_before = H.faults output; sink_now = H.faults sink }) (rest reader)) (sym is)
-      (stopped_cause e (faults reader) (faults now) (faults new) (H.faults output) (H.faults sink) (taken new) (unread new) (rest reader) so.source so.sink_faults here count)
+    text_by : (e : EdgeError) → reads.HasCause (Err e) (faults now) (faults new) (taken new) (length (unread new)) → HasNoLf bytes → (IsTrue (has_ended now) → EndsAgain (Err e))
+        → (script : List ℕ) → rest reader ≡ Some script → Writes (stopped_by e) first script (G.left new.source.now) old put
+    text_by edge.Memory cause none again script told = front_so_far old put wrote script told
+    text_by edge.ReadFault cause none again script told = text_cut edge.ReadFault cause none again (λ e. cc) script told
+    text_by edge.InputLimit cause none again script told = text_cut edge.InputLimit cause none again (λ e. cc) script told
 
--- ---- what is left of the input
+    -- no line came: the run ends with what stopped the reader
+    pub text_stopped : (e : EdgeError) (r : Result Line EdgeError) → r ≡ Err e → reads.HasCause r (faults now) (faults new) (taken new) (length (unread new)) → Spells LINE_LIMIT r bytes (rest new) (has_ended new) → (IsTrue (has_ended now) → EndsAgain r) → (status : Status) → status ≡ stopped_by e
+        → (script : List ℕ) → rest reader ≡ Some script → Writes status first script (G.left new.source.now) old put
+    text_stopped e r failed cause spells after status is script told =
+        subst (λ s. Writes s first script (G.left new.source.now) old put) (sym is)
+        (text_by e
+        (subst (λ x. reads.HasCause x (faults now) (faults new) (taken new) (length (unread new))) failed cause)
+        (subst (λ x. Spells LINE_LIMIT x bytes (rest new) (has_ended new)) failed spells)
+        (λ end. subst EndsAgain failed (after end)) script told)
+
+-- one line more
+module _ {S T : Type 0} {G : source.Ghosts S} (holds : T → State → Type 0) (leaves : T → T → State → Type 0) (joined : (a b c : T) (s t : State) → Leads s t → leaves a b s → leaves b c t → leaves a c s) where
+  pub GoesOn-line : (first : State) (session : T) (reader : LineReader S G) (session' : T) (now : LineReader S G) (written : List ℕ) (on : GoesOn holds leaves first session reader session' now written)
+      → (session'' : T) (new : LineReader S G) (line : Line) (text bytes : List ℕ) → (line ≡ End → ⊥) → IsNextLine LINE_LIMIT line (rest now) (rest new) → TakesOff now new bytes → (IsTrue (has_ended now) → EndsAgain (Ok line)) → IsLineAt LINE_LIMIT line bytes (rest new) (has_ended new)
+      → text ≡ reply_text on.state.space (reply on.state line) → holds session'' (next on.state line) → leaves session' session'' on.state → GoesOn holds leaves first session reader session'' new (written ++ text)
+  GoesOn-line first session reader session' now written on session'' new line text bytes not_end comes off after how replies held left = record {
+    state = next on.state line;
+    leads = Leads-next first on.state line on.leads;
+    held = held;
+    left = joined session session' session'' first on.state on.leads on.left left;
+    plays = Plays-line first reader now on.state written on.plays new line text not_end comes replies bytes off after how;
+  }
+
+-- ---- whatever state there is
 
 no_front : (front back : List ℕ) → front ++ back ≡ [] → back ≡ []
 no_front [] back none = none
@@ -304,33 +360,62 @@ stopped_is_not_done edge.ReadFault e = cc
 stopped_is_not_done edge.InputLimit e = cc
 stopped_is_not_done edge.Memory e = cc
 
-module _ {S K : Type 0} (G : source.Ghosts S) (H : sink.Ghosts K) where
-  -- a run that isn't done has taken a front of the input
-  pub LeavesInput-front : (first : State) (reader : LineReader S G) (output : K) (now : LineReader S G) (sink : K) (state : State) (written : List ℕ) → Answering G H first reader output now sink state written
-      → (new : LineReader S G) (bytes : List ℕ) → TakesOff now new bytes → (status : Status) → (status ≡ Done → ⊥)
-      → (script : List ℕ) → rest reader ≡ Some script → LeavesInput status script (G.left new.source.now)
-  LeavesInput-front first reader output now sink state written so new bytes off status not_done script told =
-      let follows = so.follows script told in
-      let count = counts_off script follows.0 bytes now new follows.1 follows.3 off in
-      let behind = behind_told (unread new) count.0 (G.left new.source.now) count.1 in
-      let before = follows.2.took ++ bytes in
-      let cut : script ≡ (before ++ unread new) ++ behind.0 =
-      split_on script before count.0 (unread new) behind.0 (split_on script follows.2.took follows.0 bytes count.0 follows.2.split count.2) behind.2 in
+module _ {S K : Type 0} (G : source.Ghosts S) (H : sink.Ghosts K) (reader : LineReader S G) (output : K) (now : LineReader S G) (sink : K) (written : List ℕ) (so : Serving G H reader output now sink written) (new : LineReader S G) (bytes : List ℕ) (off : TakesOff now new bytes) where
+  -- one line was answered
+  pub Serving-line : (sink' : K) (text : List ℕ) → IsOpen new → faults now ≤ faults new → H.taken sink' ≡ told_then (H.taken sink) text → H.faults sink ≤ H.faults sink' → Serving G H reader output new sink' (written ++ text)
+  Serving-line sink' text is_open grew puts grew' =
+      let sofar = so.source in
+      let sofar' = so.sink_faults in record {
+        wrote = puts ∙ ap (λ t. told_then t text) so.wrote ∙ told_then-append (H.taken output) written text;
+        gone = λ script told. Gone-more script bytes now new (so.gone script told) off;
+        is_open = is_open;
+        source = omega arith;
+        sink_faults = omega arith;
+      }
+
+  -- why the run ends with what stopped the reader
+  pub cause_stopped : {T : Type 0} (disk_faults : T → ℕ) (session session' : T) → disk_faults session ≤ disk_faults session'
+      → (e : EdgeError) (r : Result Line EdgeError) → r ≡ Err e → reads.HasCause r (faults now) (faults new) (taken new) (length (unread new)) → (status : Status) → status ≡ stopped_by e
+      → HasCause status (outside_of rest faults H.faults disk_faults reader new output sink session session')
+  cause_stopped disk_faults session session' disk e r failed cause status is =
+      let here = subst (λ x. reads.HasCause x (faults now) (faults new) (taken new) (length (unread new))) failed cause in
+      let outside = outside_of rest faults H.faults disk_faults reader new output sink session session' in
+      let count : (script : List ℕ) → rest reader ≡ Some script → (left : List ℕ) × (taken new + length left ≡ length (unread new) + length script) × (length (unread new) ≤ length left) = λ script told.
+      let gone = so.gone script told in
+      let off' = counts_off script gone.left bytes now new gone.told gone.count off in (off'.0, off'.3, off'.4) in
+      subst (λ s. HasCause s outside) (sym is)
+      (stopped_cause e outside (faults now) (taken new) (unread new) so.source so.sink_faults disk here count)
+
+  -- why the run is done
+  pub cause_done : {T : Type 0} (disk_faults : T → ℕ) (session session' : T) → disk_faults session ≤ disk_faults session' → faults now ≤ faults new → taken new ≤ 2 ^ 30 → NothingLeft (rest new)
+      → HasCause Done (outside_of rest faults H.faults disk_faults reader new output sink session session')
+  cause_done disk_faults session session' disk grew within nothing =
+      let source = so.source in (
+        record { source = omega (arith, source, grew); sink = so.sink_faults; disk = disk },
+        IfSome-from (rest reader) (λ script told.
+            let gone = Gone-more script bytes now new (so.gone script told) off in
+            let none : gone.left ≡ [] = subst NothingLeft gone.told nothing in
+            let count = gone.count in omega (arith, within, count, ap length none)),
+      )
+
+  -- a run that isn't done has taken a prefix of the input
+  pub LeavesInput-front : (status : Status) → (status ≡ Done → ⊥) → (script : List ℕ) → rest reader ≡ Some script → LeavesInput status script (G.left new.source.now)
+  LeavesInput-front status not_done script told =
+      let gone = Gone-more script bytes now new (so.gone script told) off in
+      let behind = behind_told (unread new) gone.left (G.left new.source.now) gone.told in
+      let cut : script ≡ (gone.took ++ unread new) ++ behind.0 = split_on script gone.took gone.left (unread new) behind.0 gone.split behind.2 in
       record {
-        took = before ++ unread new;
-        front = ap Some cut ∙ ap (before_told (before ++ unread new)) (sym behind.1);
+        took = gone.took ++ unread new;
+        front = ap Some cut ∙ ap (before_told (gone.took ++ unread new)) (sym behind.1);
         whole = λ done. absurd (not_done done);
       }
 
   -- a run that is done has taken all of it
-  pub LeavesInput-done : (first : State) (reader : LineReader S G) (output : K) (now : LineReader S G) (sink : K) (state : State) (written : List ℕ) → Answering G H first reader output now sink state written
-      → (new : LineReader S G) (bytes : List ℕ) → TakesOff now new bytes → NothingLeft (rest new)
-      → (script : List ℕ) → rest reader ≡ Some script → LeavesInput Done script (G.left new.source.now)
-  LeavesInput-done first reader output now sink state written so new bytes off nothing script told =
-      let follows = so.follows script told in
-      let count = counts_off script follows.0 bytes now new follows.1 follows.3 off in
-      let behind = behind_told (unread new) count.0 (G.left new.source.now) count.1 in
-      let none : count.0 ≡ [] = subst NothingLeft count.1 nothing in
+  pub LeavesInput-done : NothingLeft (rest new) → (script : List ℕ) → rest reader ≡ Some script → LeavesInput Done script (G.left new.source.now)
+  LeavesInput-done nothing script told =
+      let gone = Gone-more script bytes now new (so.gone script told) off in
+      let behind = behind_told (unread new) gone.left (G.left new.source.now) gone.told in
+      let none : gone.left ≡ [] = subst NothingLeft gone.told nothing in
       let left : G.left new.source.now ≡ Some [] = behind.1 ∙ ap Some (no_front (unread new) behind.0 (sym behind.2 ∙ none)) in
       record {
         took = script;

@@ -1,5 +1,6 @@
 pub mod Status
 pub mod Run
+pub mod Turns
 pub use Rattle.spb_defs.specs.State
 pub use Rattle.spb_defs.specs.Play
 pub use Rattle.spb_defs.specs.Words

@@ -41,26 +41,50 @@ pub record LeavesInput (status : Status) (script : List ℕ) (left : Option (Lis
   pub front : Some script ≡ before_told took left
   pub whole : status ≡ Done → left ≡ Some []
 
--- the faults of the source and of the sink, before the run and now
+-- ---- what happened outside
+
+-- the faults that something had counted before the run, and those that it has counted now
 pub record Faults : Type 0 where
-  pub source_before : ℕ
-  pub source_now : ℕ
-  pub sink_before : ℕ
-  pub sink_now : ℕ
+  pub before : ℕ
+  pub now : ℕ
 
--- the source counted no less than before, and so did the sink
-pub record NoneFell (faults : Faults) : Type 0 where
-  pub source : faults.source_before ≤ faults.source_now
-  pub sink : faults.sink_before ≤ faults.sink_now
+-- what a run met outside: the faults of its source, its sink and its disk, and what the source had before the run, where
+-- it tells
+pub record Outside : Type 0 where
+  pub source : Faults
+  pub sink : Faults
+  pub disk : Faults
+  pub told : Option (List ℕ)
 
--- why the run ended so, with what the input had before it, where that is told
-abbrev pub HasCause : Status → Faults → Option (List ℕ) → Type 0
-HasCause Done faults told = NoneFell faults × IfSome told (λ bytes. length bytes ≤ 2 ^ 30)
-HasCause Usage faults told = NoneFell faults
-HasCause NoMemory faults told = NoneFell faults
-HasCause ReadFault faults told = NoneFell faults × Rose faults.source_before faults.source_now
-HasCause WriteFault faults told = NoneFell faults × Rose faults.sink_before faults.sink_now
-HasCause InputLimit faults told = NoneFell faults × IfSome told (λ bytes. 2 ^ 30 < length bytes)
+-- the same, by what a source, a sink and a disk were before the run and are now
+abbrev pub outside_of : {S K D : Type 0} → (S → Option (List ℕ)) → (S → ℕ) → (K → ℕ) → (D → ℕ) → S → S → K → K → D → D → Outside
+outside_of left source_faults sink_faults disk_faults source source' sink sink' disk disk' = record {
+  source = record { before = source_faults source; now = source_faults source' };
+  sink = record { before = sink_faults sink; now = sink_faults sink' };
+  disk = record { before = disk_faults disk; now = disk_faults disk' };
+  told = left source;
+}
+
+-- no count of faults fell
+pub record NoneFell (outside : Outside) : Type 0 where
+  pub source : outside.source.before ≤ outside.source.now
+  pub sink : outside.sink.before ≤ outside.sink.now
+  pub disk : outside.disk.before ≤ outside.disk.now
+
+-- no count of faults rose
+pub record NoneRose (outside : Outside) : Type 0 where
+  pub source : Rose outside.source.before outside.source.now → ⊥
+  pub sink : Rose outside.sink.before outside.sink.now → ⊥
+  pub disk : Rose outside.disk.before outside.disk.now → ⊥
+
+-- why the run ended so
+abbrev pub HasCause : Status → Outside → Type 0
+HasCause Done outside = NoneFell outside × IfSome outside.told (λ bytes. length bytes ≤ 2 ^ 30)
+HasCause Usage outside = NoneFell outside
+HasCause NoMemory outside = NoneFell outside
+HasCause ReadFault outside = NoneFell outside × Rose outside.source.before outside.source.now
+HasCause WriteFault outside = NoneFell outside × Rose outside.sink.before outside.sink.now
+HasCause InputLimit outside = NoneFell outside × IfSome outside.told (λ bytes. 2 ^ 30 < length bytes)
 
 -- the work was done, or memory ran out
 abbrev pub IsDoneOrNoMemory : Status → Type 0
@@ -81,7 +105,8 @@ stopped_by edge.Memory = NoMemory
 abbrev pub Asks : Option MemorySetup → Status → Type 0
 Asks asked status = (status ≡ Usage) ↔ (asked ≡ None)
 
--- no fault was counted, and the input was told and within the limit: then the work was done, or memory ran out
-abbrev pub Completes : Status → Option MemorySetup → Faults → Option (List ℕ) → Type 0
-Completes status asked faults told = (setup : MemorySetup) → asked ≡ Some setup → (script : List ℕ) → told ≡ Some script → length script ≤ 2 ^ 30
-    → (Rose faults.source_before faults.source_now → ⊥) → (Rose faults.sink_before faults.sink_now → ⊥) → IsDoneOrNoMemory status
+-- the words were in the grammar, no fault was counted, and the input was told and within the limit: then the work was
+-- done, or memory ran out
+abbrev pub Completes : Status → Option MemorySetup → Outside → Type 0
+Completes status asked outside = (setup : MemorySetup) → asked ≡ Some setup → (script : List ℕ) → outside.told ≡ Some script → length script ≤ 2 ^ 30
+    → NoneRose outside → IsDoneOrNoMemory status

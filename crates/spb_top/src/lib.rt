@@ -3,10 +3,12 @@
 
 #[cfg(test)]
 mod plain;
+mod serve;
 mod status;
 #[cfg(test)]
 mod tests;
 mod top;
+mod turns;
 
 pub use status::{Status, code, status_line};
 pub use top::run;

@@ -1,7 +1,8 @@
-use Rattle.std.proofs.Common.{rules}
-use Rattle.spb_top.proofs.top.answer_input.Goals as goal
+use Rattle.std.proofs.Common.{rules, refl}
+use Rattle.spb_top.proofs.Running.{cause_beside}
+use Rattle.spb_top.proofs.top.serve_input.Goals as goal
 
 pub returns-clause-input : goal.returns-clause-input
 returns-clause-input g c = λ script told.
-    let leaves = c.answer_lines.ensures.input script in
+    let leaves = c.serve_lines.ensures.input script in
     search (rules, leaves, told)
