@@ -1,26 +1,26 @@
--- Rows listed as candidates, and put in order.
-use Rattle.std.proofs.Common.{◌≡◌, ℕ, ◌+◌, ◌≤◌, ◌<◌, false, List, [], ◌∷◌, ◌++◌, length, take, get_or, suc, refl, sym, ap, subst, ◌∙◌, arith}
-use Rattle.std.specs.Prelude.{◌==◌, ◌&&◌, ◌||◌, nat_lt, All, AllPairs, ◌≢◌, IsPermutation}
+-- Rows listed as candidates, and waiting.
+use Rattle.std.proofs.Common.{◌≡◌, ℕ, ◌+◌, ◌≤◌, ◌<◌, false, List, [], ◌∷◌, ◌++◌, map, length, take, get_or, suc, refl, sym, ap, subst, ◌∙◌, arith}
+use Rattle.std.specs.Prelude.{◌==◌, ◌&&◌, ◌||◌, nat_lt, sum_by, All, AllPairs, ◌≢◌, IsPermutation}
+use Rattle.std.specs.List.{AllByRecursion, flat_map}
 use Rattle.std.proofs.lemmas.Bool.Decides.{nat_tests}
-use Rattle.std.specs.List.{AllByRecursion}
-use Rattle.std.specs.List.Sorted.{IsSorted}
-use Rattle.std.specs.Ordering.{is_lt, nat_cmp, ordering_then}
-use Rattle.std.specs.declared.cmp.Ordering.{Ordering}
-use Rattle.std.specs.declared.cmp.Ordering.TheVariants.{Less, Equal, Greater}
-use Rattle.std.specs.Cmp.{IsStrictWeakOrder}
-use Rattle.std.proofs.lemmas.Cmp.{then_total, on_total, nat_cmp_total}
-use Rattle.std.proofs.lemmas.List.{take_more, get_or-map, length-map, length-take-le}
+use Rattle.std.proofs.lemmas.List.{take_more, get_or-map, get_or_default, length-map, length-take-le}
+use Rattle.std.proofs.lemmas.List.Concat.{flat_map-cons}
 use Rattle.std.proofs.lemmas.List.Elements.{All-from_recursion}
-use Rattle.std.proofs.lemmas.List.Sorted.{ranks_by, sorted_far, All-permutation, IsPermutation-map, length_permutation}
+use Rattle.std.proofs.lemmas.List.Sums.{sum_by-cons}
+use Rattle.std.proofs.lemmas.List.Sorted.{IsPermutation-map, IsPermutation-trans, sum_by-IsPermutation}
 use Rattle.answer_lists.specs.Order.{goes_before}
-use Rattle.answer_lists.specs.OrderLaws.{HasDistinct, goes_before-is}
-use Rattle.spb_defs.specs.Pivots.{vector_of, lower_bound}
+use Rattle.answer_lists.specs.OrderLaws.{HasDistinct, goes_before-is, permutation-arranged}
+use Rattle.answer_lists.specs.Permutations.{permutation-flat_map}
+use Rattle.spb_defs.specs.Pivots.{vector_of, cells_of, lower_bound}
 use Rattle.spb_defs.specs.Scans.{Row, bound_of}
 use Rattle.pivot_map.specs.declared.row.Row as vector_row
 use Rattle.pivot_map.specs.Rows.{entry_of, entries_of}
 use Rattle.pivot_map.specs.Bounds.{BoundsHold}
-use Rattle.nn_query.specs.declared.queue.Candidate.{Candidate}
-use Rattle.nn_query.specs.Queue.{candidate_for, listed, key_of, entry_at, entries_at, by_fields, Rises, IsQueue}
+use Rattle.nn_query.specs.declared.queue.Waiting.{Waiting}
+use Rattle.nn_query.specs.Listed.{candidate_for, listed, object_in, no_nodes}
+use Rattle.nn_query.specs.Queue.{Candidate, waiting_for, key_of, comes_first, under, weight_of, waiting}
+use Rattle.nn_query.specs.Visits.{entry_at, entries_at, CanVisit, IsLeast, AreBounds}
+use Rattle.nn_query.proofs.Lists.{all-map, all-moved}
 
 -- ---- the list
 
@@ -56,41 +56,19 @@ all-listed P asked n (row ∷ rows) each = (
       subst (λ (m : ℕ). P (candidate_for asked m r)) (let e : suc k + n ≡ k + (n + 1) = omega arith in e) (each (suc k) r (omega (arith, below)) at)),
 )
 
-at-listed : (entries : List Row) (asked : List ℕ) (n : ℕ) (rows : List vector_row.Row) → ((k : ℕ) (row : vector_row.Row) → k < length rows → row ≡ get_or rows k row → entry_at entries (candidate_for asked (k + n) row) ≡ entry_of row)
-    → entries_at entries (listed asked n rows) ≡ entries_of rows
+at-listed : (object_at : ℕ → List ℕ) (asked : List ℕ) (n : ℕ) (rows : List vector_row.Row) → ((k : ℕ) (row : vector_row.Row) → k < length rows → row ≡ get_or rows k row → object_at (k + n) ≡ row.object)
+    → entries_at object_at (listed asked n rows) ≡ entries_of rows
 unfolding listed
-at-listed entries asked n [] each = refl
-at-listed entries asked n (row ∷ rows) each =
-    let first : entry_at entries (candidate_for asked n row) ≡ entry_of row =
-    subst (λ (m : ℕ). entry_at entries (candidate_for asked m row) ≡ entry_of row) (let e : 0 + n ≡ n = omega arith in e) (each 0 row (omega arith) refl) in
-    let rest = at-listed entries asked (n + 1) rows (λ k r below at.
-    subst (λ (m : ℕ). entry_at entries (candidate_for asked m r) ≡ entry_of r) (let e : suc k + n ≡ k + (n + 1) = omega arith in e) (each (suc k) r (omega (arith, below)) at)) in
-    ap (λ e. e ∷ entries_at entries (listed asked (n + 1) rows)) first ∙ ap (λ es. entry_of row ∷ es) rest
+at-listed object_at asked n [] each = refl
+at-listed object_at asked n (row ∷ rows) each =
+    let first : object_at n ≡ row.object = subst (λ (m : ℕ). object_at m ≡ row.object) (let e : 0 + n ≡ n = omega arith in e) (each 0 row (omega arith) refl) in
+    let rest = at-listed object_at asked (n + 1) rows (λ k r below at.
+    subst (λ (m : ℕ). object_at m ≡ r.object) (let e : suc k + n ≡ k + (n + 1) = omega arith in e) (each (suc k) r (omega (arith, below)) at)) in
+    ap (λ (o : List ℕ). (row.id, o) ∷ entries_at object_at (listed asked (n + 1) rows)) first ∙ ap (λ es. entry_of row ∷ es) rest
 
--- the row at a place
-pub entry-is : (rows : List vector_row.Row) (place : ℕ) (row : vector_row.Row) → place < length rows → row ≡ get_or rows place row → get_or (entries_of rows) place (0, []) ≡ entry_of row
-entry-is rows place row within at = get_or-map entry_of rows place row (0, []) within ∙ ap entry_of (sym at)
-
--- ---- the order
-
-inner : (y z : Ordering) → is_lt (ordering_then y z) ≡ false → is_lt y ≡ false
-inner Less z h = h
-inner Equal z h = refl
-inner Greater z h = refl
-
-outer : (x y z : Ordering) → is_lt (ordering_then x (ordering_then y z)) ≡ false → is_lt (ordering_then x y) ≡ false
-outer Less y z h = h
-outer Equal y z h = inner y z h
-outer Greater y z h = refl
-
-pub field_order : IsStrictWeakOrder (λ (a b : Candidate). is_lt (by_fields a b))
-field_order = ranks_by (then_total (on_total (λ (c : Candidate). c.bound) nat_cmp_total) (then_total (on_total (λ (c : Candidate). c.id) nat_cmp_total) (on_total (λ (c : Candidate). c.place) nat_cmp_total))) (λ (c : Candidate). c)
-
-pub sorted-rises : (cs : List Candidate) → IsSorted by_fields cs → Rises cs
-sorted-rises cs sorted i j d le below =
-    let a = get_or cs j d in
-    let b = get_or cs i d in
-    outer (nat_cmp a.bound b.bound) (nat_cmp a.id b.id) (nat_cmp a.place b.place) (sorted_far (λ (a b : Candidate). is_lt (by_fields a b)) field_order cs sorted i j d le below)
+-- the object of the row at a place
+pub object-is : (rows : List vector_row.Row) (place : ℕ) (row : vector_row.Row) → place < length rows → row ≡ get_or rows place row → object_in rows place ≡ row.object
+object-is rows place row within at = ap (λ (r : vector_row.Row). r.object) (get_or_default rows place (record { id = 0; object = []; vect = [] }) row within ∙ sym at)
 
 -- ---- the candidates of rows
 
@@ -101,17 +79,13 @@ not_less b d i h = grind (arith, nat_tests)
 not_under : (b d i : ℕ) → b ≤ d → goes_before (d, i) (b, i) ≡ false
 not_under b d i h = goes_before-is (d, i) (b, i) ∙ not_less b d i h
 
-pub whole-list : (asked : List ℕ) (rows : List vector_row.Row) (cs : List Candidate) → IsPermutation (listed asked 0 rows) cs → IsPermutation (entries_of rows) (entries_at (entries_of rows) cs)
+pub whole-list : (asked : List ℕ) (rows : List vector_row.Row) (cs : List Candidate) → IsPermutation (listed asked 0 rows) cs → IsPermutation (entries_of rows) (entries_at (object_in rows) cs)
 whole-list asked rows cs moved =
-    subst (λ es. IsPermutation es (entries_at (entries_of rows) cs)) (at-listed (entries_of rows) asked 0 rows (λ k row below at.
-    subst (λ (m : ℕ). entry_at (entries_of rows) (candidate_for asked m row) ≡ entry_of row) (let e : k ≡ k + 0 = omega arith in e) (entry-is rows k row below at))) (IsPermutation-map (entry_at (entries_of rows)) _ cs moved)
+    subst (λ es. IsPermutation es (entries_at (object_in rows) cs)) (at-listed (object_in rows) asked 0 rows (λ k row below at.
+    subst (λ (m : ℕ). object_in rows m ≡ row.object) (let e : k ≡ k + 0 = omega arith in e) (object-is rows k row below at))) (IsPermutation-map (entry_at (object_in rows)) _ cs moved)
 
-pub length-cs : (asked : List ℕ) (rows : List vector_row.Row) (cs : List Candidate) → IsPermutation (listed asked 0 rows) cs → length cs ≡ length rows
-length-cs asked rows cs moved = length_permutation _ _ moved ∙ length-listed asked 0 rows
-
-all-cs : (P : Candidate → Type 0) (asked : List ℕ) (rows : List vector_row.Row) (cs : List Candidate) → IsPermutation (listed asked 0 rows) cs → ((k : ℕ) (row : vector_row.Row) → k < length rows → row ≡ get_or rows k row → P (candidate_for asked k row)) → All P cs
-all-cs P asked rows cs moved each = All-permutation P _ cs moved (All-from_recursion P _ (all-listed P asked 0 rows (λ k row below at.
-    subst (λ (m : ℕ). P (candidate_for asked m row)) (let e : k ≡ k + 0 = omega arith in e) (each k row below at))))
+each-listed : (P : Candidate → Type 0) (asked : List ℕ) (rows : List vector_row.Row) → ((k : ℕ) (row : vector_row.Row) → k < length rows → row ≡ get_or rows k row → P (candidate_for asked k row)) → AllByRecursion P (listed asked 0 rows)
+each-listed P asked rows each = all-listed P asked 0 rows (λ k row below at. subst (λ (m : ℕ). P (candidate_for asked m row)) (let e : k ≡ k + 0 = omega arith in e) (each k row below at))
 
 -- rows with different ids have different bounds with ids
 pub apart : (dist : List ℕ → List ℕ → ℕ) (pivots : List (List ℕ)) (query : List ℕ) (rows : List vector_row.Row) → AllPairs (λ (a b : vector_row.Row). a.id ≢ b.id) rows → HasDistinct (bound_of dist pivots query) (entries_of rows)
@@ -122,28 +96,63 @@ apart dist pivots query rows ids i j d less below same =
     ids i j none less inside
     (ap (λ (e : Row). e.0) (sym (get_or-map entry_of rows i none d (omega (arith, less, inside)))) ∙ ap (λ (b : ℕ × ℕ). b.1) same ∙ ap (λ (e : Row). e.0) (get_or-map entry_of rows j none d inside))
 
+-- ---- rows that wait
+
+under-rows : (cs : List Candidate) → flat_map (under no_nodes) (map waiting_for cs) ≡ cs
+under-rows [] = refl
+under-rows (c ∷ cs) = flat_map-cons (under no_nodes) (waiting_for c) (map waiting_for cs) ∙ ap (λ ds. c ∷ ds) (under-rows cs)
+
+weight-rows : (cs : List Candidate) → sum_by (weight_of no_nodes) (map waiting_for cs) ≡ length cs
+weight-rows [] = refl
+weight-rows (c ∷ cs) = let a = sum_by-cons (weight_of no_nodes) (waiting_for c) (map waiting_for cs) in let b = weight-rows cs in omega (arith, a, b)
+
+module _ (asked : List ℕ) (rows : List vector_row.Row) (items : List Waiting) (moved : IsPermutation (map waiting_for (listed asked 0 rows)) items) where
+  -- the candidates are under them
+  under-items : IsPermutation (listed asked 0 rows) (flat_map (under no_nodes) items)
+  under-items = subst (λ cs. IsPermutation cs (flat_map (under no_nodes) items)) (under-rows (listed asked 0 rows)) (permutation-flat_map (under no_nodes) (map waiting_for (listed asked 0 rows)) items moved)
+
+  pub in-order : IsPermutation (listed asked 0 rows) (waiting no_nodes items)
+  in-order = IsPermutation-trans _ _ _ under-items (permutation-arranged comes_first (flat_map (under no_nodes) items))
+
+  pub weight-is : sum_by (weight_of no_nodes) items ≡ length rows
+  weight-is = sum_by-IsPermutation (weight_of no_nodes) _ items moved ∙ weight-rows (listed asked 0 rows) ∙ length-listed asked 0 rows
+
+  -- each has its row
+  pub have-rows : AllByRecursion (CanVisit (λ level place. ⊥) (λ place. place < length rows)) items
+  have-rows = all-moved _ _ items moved (all-map (CanVisit (λ level place. ⊥) (λ place. place < length rows)) waiting_for (listed asked 0 rows) (each-listed (λ (c : Candidate). c.place < length rows) asked rows (λ k row below at. below)))
+
+  are-least : (cs : List Candidate) → AllByRecursion (IsLeast no_nodes (λ level place. Unit {0})) (map waiting_for cs)
+  are-least [] = tt
+  are-least (c ∷ cs) = (record { objects = (omega arith, tt); bounds = tt; sound = tt }, are-least cs)
+
+  -- no bound is too great
+  pub are-bounds : (dist : List ℕ → List ℕ → ℕ) (query : List ℕ) → ((k : ℕ) (row : vector_row.Row) → k < length rows → row ≡ get_or rows k row → lower_bound asked row.vect ≤ dist query row.object)
+      → AreBounds dist (object_in rows) query no_nodes (λ level place. Unit {0}) items
+  are-bounds dist query each = record {
+    lower =
+        all-moved (λ (c : Candidate). goes_before (dist query (object_in rows c.place), c.id) (key_of c) ≡ false) _ _ under-items
+        (each-listed (λ (c : Candidate). goes_before (dist query (object_in rows c.place), c.id) (key_of c) ≡ false) asked rows (λ k row below at.
+        subst (λ (o : List ℕ). goes_before (dist query o, row.id) (lower_bound asked row.vect, row.id) ≡ false) (sym (object-is rows k row below at))
+        (not_under (lower_bound asked row.vect) (dist query row.object) row.id (each k row below at))));
+    least = all-moved _ _ items moved (are-least (listed asked 0 rows));
+  }
+
 module _ (dist : List ℕ → List ℕ → ℕ) (pivots : List (List ℕ)) (query : List ℕ) (rows : List vector_row.Row) where
   -- the key of a candidate is the bound of its row
-  pub keys-are : (cs : List Candidate) → IsPermutation (listed (vector_of dist pivots query) 0 rows) cs → All (λ (row : vector_row.Row). row.vect ≡ vector_of dist pivots row.object) rows
-      → All (λ (c : Candidate). key_of c ≡ bound_of dist pivots query (entry_at (entries_of rows) c)) cs
+  pub keys-are : (cs : List Candidate) → IsPermutation (listed (vector_of dist pivots query) 0 rows) cs → All (λ (row : vector_row.Row). row.vect ≡ cells_of dist pivots row.object) rows
+      → All (λ (c : Candidate). key_of c ≡ bound_of dist pivots query (entry_at (object_in rows) c)) cs
   keys-are cs moved vects =
       let asked = vector_of dist pivots query in
-      all-cs (λ (c : Candidate). key_of c ≡ bound_of dist pivots query (entry_at (entries_of rows) c)) asked rows cs moved (λ k row below at.
-      let vect : row.vect ≡ vector_of dist pivots row.object = subst (λ (r : vector_row.Row). r.vect ≡ vector_of dist pivots r.object) (sym at) (vects k row below) in
+      All-from_recursion _ cs (all-moved (λ (c : Candidate). key_of c ≡ bound_of dist pivots query (entry_at (object_in rows) c)) _ cs moved
+      (each-listed (λ (c : Candidate). key_of c ≡ bound_of dist pivots query (entry_at (object_in rows) c)) asked rows (λ k row below at.
+      let vect : row.vect ≡ cells_of dist pivots row.object = subst (λ (r : vector_row.Row). r.vect ≡ cells_of dist pivots r.object) (sym at) (vects k row below) in
       let key : ◌≡◌ {A = ℕ × ℕ} (lower_bound asked row.vect, row.id) (bound_of dist pivots query (entry_of row)) = ap (λ v. (lower_bound asked v, row.id)) vect in
-      key ∙ ap (bound_of dist pivots query) (sym (entry-is rows k row below at)))
+      key ∙ ap (λ (o : List ℕ). bound_of dist pivots query (row.id, o)) (sym (object-is rows k row below at)))))
 
-  pub are-queued : (admitted : List ℕ → Type 0) (cs : List Candidate) → IsPermutation (listed (vector_of dist pivots query) 0 rows) cs → Rises cs
-      → All (λ (row : vector_row.Row). row.vect ≡ vector_of dist pivots row.object) rows → All (λ (row : vector_row.Row). admitted row.object) rows → admitted query → BoundsHold admitted dist pivots
-      → IsQueue dist (entries_of rows) query cs
-  are-queued admitted cs moved rises vects objects asks holds = record {
-    places = all-cs (λ (c : Candidate). c.place < length (entries_of rows)) (vector_of dist pivots query) rows cs moved (λ k row below at. let e = length-map rows entry_of in omega (arith, below, e));
-    order = rises;
-    lower =
-        all-cs (λ (c : Candidate). goes_before (dist query (entry_at (entries_of rows) c).1, (entry_at (entries_of rows) c).0) (key_of c) ≡ false) (vector_of dist pivots query) rows cs moved (λ k row below at.
-        let vect : row.vect ≡ vector_of dist pivots row.object = subst (λ (r : vector_row.Row). r.vect ≡ vector_of dist pivots r.object) (sym at) (vects k row below) in
-        let object : admitted row.object = subst (λ (r : vector_row.Row). admitted r.object) (sym at) (objects k row below) in
-        let under : lower_bound (vector_of dist pivots query) row.vect ≤ dist query row.object =
-        subst (λ v. lower_bound (vector_of dist pivots query) v ≤ dist query row.object) (sym vect) (holds.bound_below query row.object asks object) in
-        subst (λ (e : Row). goes_before (dist query e.1, e.0) (lower_bound (vector_of dist pivots query) row.vect, row.id) ≡ false) (sym (entry-is rows k row below at)) (not_under (lower_bound (vector_of dist pivots query) row.vect) (dist query row.object) row.id under));
-  }
+  -- the bounds are those that the pivots set
+  pub bounds-are : (admitted : List ℕ → Type 0) → All (λ (row : vector_row.Row). row.vect ≡ cells_of dist pivots row.object) rows → All (λ (row : vector_row.Row). admitted row.object) rows → admitted query → BoundsHold admitted dist pivots
+      → (k : ℕ) (row : vector_row.Row) → k < length rows → row ≡ get_or rows k row → lower_bound (vector_of dist pivots query) row.vect ≤ dist query row.object
+  bounds-are admitted vects objects asks holds k row below at =
+      let vect : row.vect ≡ cells_of dist pivots row.object = subst (λ (r : vector_row.Row). r.vect ≡ cells_of dist pivots r.object) (sym at) (vects k row below) in
+      let object : admitted row.object = subst (λ (r : vector_row.Row). admitted r.object) (sym at) (objects k row below) in
+      subst (λ v. lower_bound (vector_of dist pivots query) v ≤ dist query row.object) (sym vect) (holds.bound_below query row.object asks object)

@@ -32,6 +32,12 @@ is_yes false = ⊥
 differ : true ≡ false → ⊥
 differ e = subst is_yes e tt
 
+pub shut-is : (k n : ℕ) → true ≡ nat_le k n → k ≤ n
+shut-is k n h = grind (arith, nat_tests)
+
+pub open-is : (k n : ℕ) → false ≡ nat_le k n → n < k
+open-is k n h = grind (arith, nat_tests)
+
 -- ---- how many go before
 
 pub before-cons : (r x : Pair) (xs : List Pair) → before r (x ∷ xs) ≡ one_if (goes_before x r) + before r xs
@@ -186,6 +192,12 @@ put-few k r old new moved few =
     let is = arranged-permuted (r ∷ old) new moved in
     let long = laws.arranged-length goes_before new in
     is ∙ sym (ap (take k) (sym is) ∙ take_all k (arranged goes_before new) (omega (arith, long, few)) ∙ is)
+
+-- one more that is shut out changes nothing
+pub put-shut : (k : ℕ) (r : Pair) (xs : List Pair) → length xs ≤ k → k ≤ before r (arranged goes_before xs) → arranged goes_before xs ≡ take k (placed goes_before r (arranged goes_before xs))
+put-shut k r xs few many =
+    let long = laws.arranged-length goes_before xs in
+    sym (take-placed r k (arranged goes_before xs) (in_order-arranged xs) many ∙ take_all k (arranged goes_before xs) (omega (arith, long, few)))
 
 -- one more, and the greatest taken out
 pub put-many : (k : ℕ) (r greatest : Pair) (old amid new : List Pair) → IsPermutation (r ∷ old) amid → IsPermutation amid (greatest ∷ new) → AllByRecursion (λ (y : Pair). goes_before greatest y ≡ false) new → length new ≡ k

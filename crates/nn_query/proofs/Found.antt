@@ -13,8 +13,8 @@ use Rattle.answer_lists.specs.OrderLaws as laws
 use Rattle.answer_lists.specs.OrderLaws.{Pair}
 use Rattle.metric_laws.specs.Log.{each_with}
 use Rattle.spb_defs.specs.Scans.{Row, ranks_of, scan_near, kth_rank, bound_of, is_not_behind, near_evals, near_visits}
-use Rattle.nn_query.specs.declared.queue.Candidate.{Candidate}
-use Rattle.nn_query.specs.Queue.{key_of, entry_at, entries_at, objects_at, before, Rises, Visited}
+use Rattle.nn_query.specs.Queue.{Candidate, key_of, before, Rises}
+use Rattle.nn_query.specs.Visits.{entry_at, entries_at, objects_at, Visited}
 use Rattle.nn_query.proofs.Counting.{in_order-arranged, arranged-permuted, past, past-is, before-arranged}
 
 -- ---- the ranks
@@ -26,8 +26,8 @@ module _ (dist : List ℕ → List ℕ → ℕ) (query : List ℕ) where
   ranks-permuted : (rows others : List Row) → IsPermutation rows others → arranged goes_before (ranks_of dist others query) ≡ arranged goes_before (ranks_of dist rows query)
   ranks-permuted rows others moved = arranged-permuted (ranks_of dist rows query) (ranks_of dist others query) (IsPermutation-map rank_of rows others moved)
 
-  pub nearest-found : (entries : List Row) (cs : List Candidate) (k n : ℕ) (least : List Pair) → IsPermutation entries (entries_at entries cs) → Visited dist entries query cs k n least → least ≡ scan_near dist entries query k
-  nearest-found entries cs k n least moved visited = visited.first ∙ ap (take k) (ranks-permuted entries (entries_at entries cs) moved)
+  pub nearest-found : (object_at : ℕ → List ℕ) (entries : List Row) (cs : List Candidate) (k n : ℕ) (least : List Pair) → IsPermutation entries (entries_at object_at cs) → Visited dist object_at query cs k n least → least ≡ scan_near dist entries query k
+  nearest-found object_at entries cs k n least moved visited = visited.first ∙ ap (take k) (ranks-permuted entries (entries_at object_at cs) moved)
 
   not_behind-is : (pivots : List (List ℕ)) (last : Option Pair) (row : Row) → is_not_behind dist pivots query last row ≡ not (past last (bound_of dist pivots query row))
   not_behind-is pivots None row = refl
@@ -60,67 +60,67 @@ dropped p f (x ∷ xs) all = ap (λ (b : Bool). if b then f x ∷ filter p (map 
 
 -- ---- what was looked at
 
-module _ (dist : List ℕ → List ℕ → ℕ) (pivots : List (List ℕ)) (query : List ℕ) (entries : List Row) (cs : List Candidate) (k n : ℕ) (least : List Pair)
-    (some : 1 ≤ k) (moved : IsPermutation entries (entries_at entries cs)) (keys : All (λ (c : Candidate). key_of c ≡ bound_of dist pivots query (entry_at entries c)) cs) (visited : Visited dist entries query cs k n least) where
+module _ (dist : List ℕ → List ℕ → ℕ) (pivots : List (List ℕ)) (query : List ℕ) (object_at : ℕ → List ℕ) (entries : List Row) (cs : List Candidate) (k n : ℕ) (least : List Pair)
+    (some : 1 ≤ k) (moved : IsPermutation entries (entries_at object_at cs)) (keys : All (λ (c : Candidate). key_of c ≡ bound_of dist pivots query (entry_at object_at c)) cs) (visited : Visited dist object_at query cs k n least) where
   abbrev pub in_reach : Row → Bool
   in_reach = is_not_behind dist pivots query (kth_rank dist entries query k)
 
-  same-count : (b : Pair) → before b (ranks_of dist (entries_at entries cs) query) ≡ before b (ranks_of dist entries query)
-  same-count b = sum_by-IsPermutation _ _ _ (IsPermutation-map (rank_of dist query) entries (entries_at entries cs) moved)
+  same-count : (b : Pair) → before b (ranks_of dist (entries_at object_at cs) query) ≡ before b (ranks_of dist entries query)
+  same-count b = sum_by-IsPermutation _ _ _ (IsPermutation-map (rank_of dist query) entries (entries_at object_at cs) moved)
 
-  reach-is : (c : Candidate) → key_of c ≡ bound_of dist pivots query (entry_at entries c) → in_reach (entry_at entries c) ≡ not (nat_le k (before (key_of c) (ranks_of dist (entries_at entries cs) query)))
+  reach-is : (c : Candidate) → key_of c ≡ bound_of dist pivots query (entry_at object_at c) → in_reach (entry_at object_at c) ≡ not (nat_le k (before (key_of c) (ranks_of dist (entries_at object_at cs) query)))
   reach-is c key =
-      told dist query pivots entries k (entry_at entries c) some
+      told dist query pivots entries k (entry_at object_at c) some
       ∙ ap (λ m. not (nat_le k m)) (ap (λ b. before b (ranks_of dist entries query)) (sym key) ∙ sym (same-count (key_of c)))
 
-  inside : All (λ (c : Candidate). in_reach (entry_at entries c) ≡ true) (take n cs)
-  inside j d below = reach-is (get_or (take n cs) j d) (All-take (λ (c : Candidate). key_of c ≡ bound_of dist pivots query (entry_at entries c)) n cs keys j d below) ∙ few k _ (visited.looked_at j d below)
+  inside : All (λ (c : Candidate). in_reach (entry_at object_at c) ≡ true) (take n cs)
+  inside j d below = reach-is (get_or (take n cs) j d) (All-take (λ (c : Candidate). key_of c ≡ bound_of dist pivots query (entry_at object_at c)) n cs keys j d below) ∙ few k _ (visited.looked_at j d below)
 
-  outside : All (λ (c : Candidate). in_reach (entry_at entries c) ≡ false) (drop n cs)
-  outside j d below = reach-is (get_or (drop n cs) j d) (All-drop (λ (c : Candidate). key_of c ≡ bound_of dist pivots query (entry_at entries c)) n cs keys j d below) ∙ many k _ (visited.left_out j d below)
+  outside : All (λ (c : Candidate). in_reach (entry_at object_at c) ≡ false) (drop n cs)
+  outside j d below = reach-is (get_or (drop n cs) j d) (All-drop (λ (c : Candidate). key_of c ≡ bound_of dist pivots query (entry_at object_at c)) n cs keys j d below) ∙ many k _ (visited.left_out j d below)
 
   -- those looked at are those in reach
-  pub reached : filter in_reach (entries_at entries cs) ≡ entries_at entries (take n cs)
+  pub reached : filter in_reach (entries_at object_at cs) ≡ entries_at object_at (take n cs)
   reached =
-      ap (λ xs. filter in_reach (entries_at entries xs)) (sym (take-append-drop n cs))
-      ∙ ap (filter in_reach) (map-append (entry_at entries) (take n cs) (drop n cs))
-      ∙ filter-append in_reach (entries_at entries (take n cs)) (entries_at entries (drop n cs))
-      ∙ ap (λ xs. xs ++ filter in_reach (entries_at entries (drop n cs))) (kept in_reach (entry_at entries) (take n cs) (recursion_from_All _ _ inside))
-      ∙ ap (λ xs. entries_at entries (take n cs) ++ xs) (dropped in_reach (entry_at entries) (drop n cs) (recursion_from_All _ _ outside))
-      ∙ append-nil (entries_at entries (take n cs))
+      ap (λ xs. filter in_reach (entries_at object_at xs)) (sym (take-append-drop n cs))
+      ∙ ap (filter in_reach) (map-append (entry_at object_at) (take n cs) (drop n cs))
+      ∙ filter-append in_reach (entries_at object_at (take n cs)) (entries_at object_at (drop n cs))
+      ∙ ap (λ xs. xs ++ filter in_reach (entries_at object_at (drop n cs))) (kept in_reach (entry_at object_at) (take n cs) (recursion_from_All _ _ inside))
+      ∙ ap (λ xs. entries_at object_at (take n cs) ++ xs) (dropped in_reach (entry_at object_at) (drop n cs) (recursion_from_All _ _ outside))
+      ∙ append-nil (entries_at object_at (take n cs))
 
   pub evals-found : length pivots + n ≡ near_evals dist pivots entries query k
   evals-found =
-      let a : count_by in_reach (entries_at entries cs) ≡ count_by in_reach entries = sum_by-IsPermutation _ _ _ moved in
-      let b : length (filter in_reach (entries_at entries cs)) ≡ count_by in_reach (entries_at entries cs) = length-filter in_reach (entries_at entries cs) in
-      let c : length (filter in_reach (entries_at entries cs)) ≡ n = ap length reached ∙ length-map (take n cs) (entry_at entries) ∙ length-take-le n cs visited.within in omega (arith, a, b, c)
+      let a : count_by in_reach (entries_at object_at cs) ≡ count_by in_reach entries = sum_by-IsPermutation _ _ _ moved in
+      let b : length (filter in_reach (entries_at object_at cs)) ≡ count_by in_reach (entries_at object_at cs) = length-filter in_reach (entries_at object_at cs) in
+      let c : length (filter in_reach (entries_at object_at cs)) ≡ n = ap length reached ∙ length-map (take n cs) (entry_at object_at) ∙ length-take-le n cs visited.within in omega (arith, a, b, c)
 
   -- the objects that are looked at are those in reach, by their bounds and ids
   module _ (distinct : laws.HasDistinct (bound_of dist pivots query) entries) (rises : Rises cs) where
-    bound-at : (i : ℕ) (none : Candidate) (d : Row) → i < length cs → key_of (get_or cs i none) ≡ bound_of dist pivots query (get_or (entries_at entries cs) i d)
-    bound-at i none d inside = keys i none inside ∙ ap (bound_of dist pivots query) (sym (get_or-map (entry_at entries) cs i none d inside))
+    bound-at : (i : ℕ) (none : Candidate) (d : Row) → i < length cs → key_of (get_or cs i none) ≡ bound_of dist pivots query (get_or (entries_at object_at cs) i d)
+    bound-at i none d inside = keys i none inside ∙ ap (bound_of dist pivots query) (sym (get_or-map (entry_at object_at) cs i none d inside))
 
-    bounds-rise : IsSortedBy (λ (a b : Row). goes_before (bound_of dist pivots query a) (bound_of dist pivots query b)) (entries_at entries cs)
+    bounds-rise : IsSortedBy (λ (a b : Row). goes_before (bound_of dist pivots query a) (bound_of dist pivots query b)) (entries_at object_at cs)
     bounds-rise j d low below =
         let none : Candidate = record { bound = 0; id = 0; place = 0 } in
-        let long = length-map cs (entry_at entries) in
+        let long = length-map cs (entry_at object_at) in
         let later : j + 1 < length cs = omega (arith, below, long) in
-        ap (λ b. goes_before b (bound_of dist pivots query (get_or (entries_at entries cs) j d))) (sym (bound-at (j + 1) none d later))
+        ap (λ b. goes_before b (bound_of dist pivots query (get_or (entries_at object_at cs) j d))) (sym (bound-at (j + 1) none d later))
         ∙ ap (goes_before (key_of (get_or cs (j + 1) none))) (sym (bound-at j none d (omega (arith, later))))
         ∙ rises j (j + 1) none (omega arith) later
 
-    pub visits-found : each_with query pivots ++ each_with query (objects_at entries (take n cs)) ≡ each_with query (near_visits dist pivots entries query k)
+    pub visits-found : each_with query pivots ++ each_with query (objects_at object_at (take n cs)) ≡ each_with query (near_visits dist pivots entries query k)
     unfolding near_visits
     visits-found =
         let by = λ (a b : Row). goes_before (bound_of dist pivots query a) (bound_of dist pivots query b) in
         let weak = laws.weak_by_key goes_before laws.pair_order (bound_of dist pivots query) in
-        let whole : entries_at entries cs ≡ arranged by entries =
-        laws.arranged_by-unique goes_before laws.pair_order (bound_of dist pivots query) entries (entries_at entries cs) moved distinct (laws.in_order-from_sorted by weak (entries_at entries cs) bounds-rise) in
-        let rows : arranged by (filter in_reach entries) ≡ entries_at entries (take n cs) =
+        let whole : entries_at object_at cs ≡ arranged by entries =
+        laws.arranged_by-unique goes_before laws.pair_order (bound_of dist pivots query) entries (entries_at object_at cs) moved distinct (laws.in_order-from_sorted by weak (entries_at object_at cs) bounds-rise) in
+        let rows : arranged by (filter in_reach entries) ≡ entries_at object_at (take n cs) =
         laws.arranged_by-filter goes_before laws.pair_order (bound_of dist pivots query) in_reach entries ∙ ap (filter in_reach) (sym whole) ∙ reached in
-        sym (map-append (λ (o : List ℕ). (query, o)) pivots (objects_at entries (take n cs)))
+        sym (map-append (λ (o : List ℕ). (query, o)) pivots (objects_at object_at (take n cs)))
         ∙ ap (λ os. each_with query (pivots ++ os)) (objects-are (take n cs) ∙ ap (map (λ (row : Row). row.1)) (sym rows))
       where
-        objects-are : (xs : List Candidate) → objects_at entries xs ≡ map (λ (row : Row). row.1) (entries_at entries xs)
+        objects-are : (xs : List Candidate) → objects_at object_at xs ≡ map (λ (row : Row). row.1) (entries_at object_at xs)
         objects-are [] = refl
-        objects-are (x ∷ xs) = ap (λ os. (entry_at entries x).1 ∷ os) (objects-are xs)
+        objects-are (x ∷ xs) = ap (λ os. object_at x.place ∷ os) (objects-are xs)

@@ -1,5 +1,7 @@
 pub mod Candidates
 pub mod Counting
-pub mod Looking
 pub mod Found
-pub mod Taking
+pub mod Lists
+pub mod Looking
+pub mod Orders
+pub mod Turns

@@ -2,8 +2,10 @@
 #![tactic(auto)]
 
 mod best;
+mod hierarchy;
 mod near;
 mod queue;
+mod rows;
 #[cfg(test)]
 mod tests;
 

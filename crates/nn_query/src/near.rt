@@ -1,13 +1,17 @@
-ghost use Rattle.std.specs.Prelude.{◌≡◌, [], ℕ, ◌+◌, ◌^◌, ◌<◌, ◌≤◌, length, take, All, IfOk, OnOk};
+ghost use Rattle.std.specs.Prelude.{◌≡◌, [], ◌+◌, ◌^◌, ◌<◌, ◌≤◌, take, sum_by, IfOk, OnOk};
+ghost use Rattle.std.specs.List.{AllByRecursion};
 ghost use Rattle.metric_laws.specs.Log.{Grew, each_with};
 ghost use Rattle.spb_defs.specs.Scans.{near_answer, near_visits};
 ghost use Rattle.pivot_map.specs.Rows.{ArePivots, AreRows, entries_of};
+ghost use Rattle.nn_query.specs.Items.{items_of};
 ghost use Rattle.nn_query.specs.Least.{least_of};
-ghost use Rattle.nn_query.specs.Queue.{IsQueue, Visited, objects_at};
-ghost use Rattle.nn_query.specs.Queued.{queued};
+ghost use Rattle.nn_query.specs.Queue.{weight_of, waiting};
+ghost use Rattle.nn_query.specs.Visits.{objects_at, CanVisit, AreBounds, Visited, reached};
 
 use crate::best::Best;
-use crate::queue::Queue;
+use crate::hierarchy::Hierarchy;
+use crate::queue::{Kind, Queue};
+use crate::rows::Rows;
 use metric_laws::Ruler;
 use pivot_map::{Row, map_object};
 use spb_defs::NearAnswer;
@@ -39,48 +43,65 @@ pub fn near_rows<R: Ruler>(
     ensures count { IfOk result (λ answer. R.count ruler.new ≡ R.count ruler.old + answer.evals) }
     ensures log { OnOk result (Grew (R.log ruler.old) (R.log ruler.new)
         (each_with q.now (near_visits (R.dist (R.kind ruler.old)) pivots.now (entries_of rows.now) q.now k))) }
+    ensures rises { R.count ruler.old ≤ R.count ruler.new }
     ensures kind { R.kind ruler.new ≡ R.kind ruler.old }
 {
     let asked = map_object(ruler, pivots, q);
     let queue = Queue::of(alloc, rows, &asked)?;
     let mut best = Best::new(alloc, k);
-    let measured = measure_first(rows, queue, ruler, q, &mut best)?;
+    let measured = visit_in_order(&mut Rows { rows }, queue, ruler, q, &mut best)?;
     Ok(NearAnswer {
         rows: best.into_ranks(),
         evals: pivots.len() as u64 + measured,
     })
 }
 
-/// Measures the query with the candidates in their order, up to the first whose bound and id the best
-/// shut out, and puts the ranks among the best. It answers how many it measured.
-fn measure_first<R: Ruler>(
-    rows: &[Row],
+/// Looks at what waits in its order, nodes before objects of the same bound, up to the first that the best
+/// shut out: it opens nodes into the queue, and measures objects and puts their ranks among the best. It
+/// answers how many it measured. What it finds is told if no bound is too great.
+fn visit_in_order<H: Hierarchy, R: Ruler>(
+    held: &mut H,
     mut queue: Queue,
     ruler: &mut R,
     q: &[u8],
     best: &mut Best,
-) -> Result<u64, Memory>
+) -> Result<u64, H::Error>
     requires query { R.admitted (R.kind ruler.old) q.now }
-    requires objects { All (λ (row : Row). R.admitted (R.kind ruler.old) row.object) rows.now }
-    requires queue { IsQueue (R.dist (R.kind ruler.old)) (entries_of rows.now) q.now (queued queue) }
-    requires few { length (queued queue) ≤ 2 ^ 31 }
+    requires items { AllByRecursion (CanVisit (H.can_open (H.content held.old)) (H.can_measure (H.content held.old))) (items_of queue) }
+    requires objects { H.suits (H.content held.old) (R.admitted (R.kind ruler.old)) }
+    requires few { sum_by (weight_of (H.nodes (H.content held.old))) (items_of queue) ≤ 2 ^ 31 }
     requires room { R.count ruler.old < 2 ^ 63 + 8 }
     requires none { least_of best.old ≡ [] }
-    ensures visited { IfOk result (λ n. Visited (R.dist (R.kind ruler.old)) (entries_of rows.now) q.now (queued queue) best.old.most n (least_of best.new)) }
+    ensures visited { IfOk result (λ n.
+        AreBounds (R.dist (R.kind ruler.old)) (H.object_at (H.content held.old)) q.now (H.nodes (H.content held.old)) (H.is_sound (H.content held.old)) (items_of queue)
+        → Visited (R.dist (R.kind ruler.old)) (H.object_at (H.content held.old)) q.now (waiting (H.nodes (H.content held.old)) (items_of queue)) best.old.most n (least_of best.new)) }
+    ensures opened { OnOk result (
+        AreBounds (R.dist (R.kind ruler.old)) (H.object_at (H.content held.old)) q.now (H.nodes (H.content held.old)) (H.is_sound (H.content held.old)) (items_of queue)
+        → H.opened held.new ≡ H.opened held.old
+        + reached (R.dist (R.kind ruler.old)) (H.object_at (H.content held.old)) q.now (H.nodes (H.content held.old)) best.old.most (items_of queue)) }
+    ensures log { IfOk result (λ n.
+        AreBounds (R.dist (R.kind ruler.old)) (H.object_at (H.content held.old)) q.now (H.nodes (H.content held.old)) (H.is_sound (H.content held.old)) (items_of queue)
+        → Grew (R.log ruler.old) (R.log ruler.new)
+        (each_with q.now (objects_at (H.object_at (H.content held.old)) (take n (waiting (H.nodes (H.content held.old)) (items_of queue)))))) }
+    ensures few { IfOk result (λ n. n ≤ sum_by (weight_of (H.nodes (H.content held.old))) (items_of queue)) }
     ensures count { IfOk result (λ n. R.count ruler.new ≡ R.count ruler.old + n) }
-    ensures log { IfOk result (λ n. Grew (R.log ruler.old) (R.log ruler.new)
-        (each_with q.now (objects_at (entries_of rows.now) (take n (queued queue))))) }
+    ensures rises { R.count ruler.old ≤ R.count ruler.new }
     ensures kind { R.kind ruler.new ≡ R.kind ruler.old }
+    ensures kept { H.content held.new ≡ H.content held.old }
 {
     let mut measured = 0;
-    while let Some(candidate) = queue.next() {
-        if best.shuts_out((candidate.bound, candidate.id)) {
+    while let Some(first) = queue.next() {
+        if best.shuts_out(first.key()) {
             return Ok(measured);
         }
-        let row = &rows[candidate.place as usize];
-        let distance = ruler.measure(q, row.object.as_slice());
-        measured += 1;
-        best.put((distance, row.id))?;
+        match first.kind {
+            Kind::Node { level } => held.open(level, first.place, best, &mut queue)?,
+            Kind::Object { id } => {
+                let distance = held.measure(first.place, ruler, q)?;
+                measured += 1;
+                best.put((distance, id))?;
+            }
+        }
     }
     Ok(measured)
 }

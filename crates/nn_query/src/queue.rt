@@ -1,8 +1,9 @@
-//! The rows in the order in which they are looked at.
+//! What waits to be looked at.
 ghost use Rattle.std.specs.Prelude.{◌≡◌, ◌^◌, ◌≤◌, length, map, All, IfOk};
 ghost use Rattle.std.specs.BinaryHeap.{IsHeap, heap_items};
 ghost use Rattle.std.proofs.Props.{props};
-ghost use Rattle.nn_query.specs.Queue.{by_fields, listed};
+ghost use Rattle.nn_query.specs.Queue.{key_at, waiting_for};
+ghost use Rattle.nn_query.specs.Listed.{listed};
 
 use curve_laws::Vect;
 use pivot_map::{Row, lower};
@@ -11,33 +12,55 @@ use std::alloc::Global;
 use std::cmp::Reverse;
 use std::collections::BinaryHeap;
 
-/// A row that may be among the nearest: the distance that the pivots tell it is apart at least, its id,
-/// and its place among the rows. Candidates are in order by these.
+/// What waits: nodes go before objects, nodes of a lesser level before others, and objects by their ids.
 #[derive(Clone, Copy, Debug, PartialEq, Eq, PartialOrd, Ord)]
-pub(crate) struct Candidate {
+pub(crate) enum Kind {
+    /// A node, to be opened.
+    Node { level: u8 },
+    /// An object, to be measured.
+    Object { id: u32 },
+}
+
+/// A node or an object that waits: the distance that the query is apart at least from all objects under
+/// it, and its place. It goes by its bound, then by its kind, then by its place.
+#[derive(Clone, Copy, Debug, PartialEq, Eq, PartialOrd, Ord)]
+pub(crate) struct Waiting {
     pub(crate) bound: u32,
-    pub(crate) id: u32,
+    pub(crate) kind: Kind,
     pub(crate) place: u32,
 }
 
-/// Candidates that are put in order as they are taken out.
+impl Waiting {
+    /// The least rank that an object under it may have: its bound, with the id of an object and 0 for a
+    /// node.
+    pub(crate) fn key(&self) -> (u32, u32)
+        ensures { result ≡ key_at self.now }
+    {
+        match self.kind {
+            Kind::Node { .. } => (self.bound, 0),
+            Kind::Object { id } => (self.bound, id),
+        }
+    }
+}
+
+/// Those that wait, put in order as they are taken out.
 #[derive(Drop)]
 pub(crate) struct Queue {
-    heap: BinaryHeap<Reverse<Candidate>>,
-    ghost ordered: { IsHeap (λ a b. by_fields b.0 a.0) (heap_items heap) } by { Prim.hlevel props },
+    heap: BinaryHeap<Reverse<Waiting>>,
+    ghost ordered: { IsHeap ⟦<Reverse<Waiting> as Ord>⟧.cmp (heap_items heap) } by { Prim.hlevel props },
 }
 
 impl Queue {
-    ghost use Rattle.std.specs.Prelude.{[], ◌∷◌, IfSome, IfNone, IsPermutation};
-    ghost use Rattle.nn_query.specs.Queue.{Rises};
-    ghost use Rattle.nn_query.specs.Queued.{queued};
+    ghost use Rattle.std.specs.Prelude.{false, [], ◌∷◌, IfSome, IfNone, IsPermutation};
+    ghost use Rattle.std.specs.List.{AllByRecursion};
+    ghost use Rattle.nn_query.specs.Queue.{goes_first};
+    ghost use Rattle.nn_query.specs.Items.{items_of};
 
-    /// A candidate for each row. It takes time in proportion to the rows, and memory for the candidates.
+    /// The objects of the rows. It takes time in proportion to the rows, and memory for 16 bytes each.
     pub(crate) fn of(alloc: Global, rows: &[Row], asked: &Vect) -> Result<Queue, Memory>
         requires few { length rows.now ≤ 2 ^ 31 }
         requires vects { All (λ (row : Row). length row.vect ≡ length asked.now) rows.now }
-        ensures whole { IfOk result (λ queue. IsPermutation (listed asked.now 0 rows.now) (queued queue)) }
-        ensures order { IfOk result (λ queue. Rises (queued queue)) }
+        ensures { IfOk result (λ queue. IsPermutation (map waiting_for (listed asked.now 0 rows.now)) (items_of queue)) }
     {
         let found = list(alloc, rows, asked)?;
         Ok(Queue {
@@ -45,10 +68,11 @@ impl Queue {
         })
     }
 
-    /// Takes the first candidate out. It takes the time of a step in a heap.
-    pub(crate) fn next(&mut self) -> Option<Candidate>
-        ensures some { IfSome result (λ first. queued self.old ≡ first ∷ queued self.new) }
-        ensures none { IfNone result (queued self.old ≡ []) }
+    /// Takes the first one out. It takes the time of a step in a heap.
+    pub(crate) fn next(&mut self) -> Option<Waiting>
+        ensures some { IfSome result (λ first. IsPermutation (items_of self.old) (first ∷ items_of self.new)) }
+        ensures first { IfSome result (λ first. AllByRecursion (λ w. goes_first w first ≡ false) (items_of self.new)) }
+        ensures none { IfNone result (items_of self.old ≡ []) }
     {
         match self.heap.pop() {
             Some(first) => Some(first.0),
@@ -57,17 +81,17 @@ impl Queue {
     }
 }
 
-/// A candidate for each row, in the order of the rows.
-fn list(alloc: Global, rows: &[Row], asked: &Vect) -> Result<Vec<Reverse<Candidate>>, Memory>
+/// The object of each row, in the order of the rows.
+fn list(alloc: Global, rows: &[Row], asked: &Vect) -> Result<Vec<Reverse<Waiting>>, Memory>
     requires few { length rows.now ≤ 2 ^ 31 }
     requires vects { All (λ (row : Row). length row.vect ≡ length asked.now) rows.now }
-    ensures { IfOk result (λ found. map (λ turned. turned.0) found.items ≡ listed asked.now 0 rows.now) }
+    ensures { IfOk result (λ found. map (λ turned. turned.0) found.items ≡ map waiting_for (listed asked.now 0 rows.now)) }
 {
     let mut found = Vec::with_capacity(alloc, rows.len())?;
     for (place, row) in rows.iter().enumerate() {
-        found.push(Reverse(Candidate {
+        found.push(Reverse(Waiting {
             bound: lower(asked, &row.vect),
-            id: row.id,
+            kind: Kind::Object { id: row.id },
             place: place as u32,
         }))?;
     }

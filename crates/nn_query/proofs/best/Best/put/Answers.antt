@@ -1,7 +1,13 @@
-use Rattle.std.proofs.Common.{◌≡◌, length, rules, arith}
+use Rattle.std.proofs.Common.{◌≡◌, length, rules, arith, sym, ◌∙◌}
 use Rattle.std.specs.BinaryHeap.{heap_items, heap_len}
-use Rattle.nn_query.proofs.Counting.{put-few, popped, none_left}
+use Rattle.nn_query.proofs.Counting.{shut-is, put-shut, put-few, popped, none_left}
 use Rattle.nn_query.proofs.best.Best.put.Goals as goal
+
+pub returns-then-shuts_out-clause-ranks : goal.returns-then-shuts_out-clause-ranks
+returns-then-shuts_out-clause-ranks c =
+    let now = c.args.self.now in
+    let long : length (heap_items now.heap) ≡ heap_len now.heap = search rules in
+    put-shut now.most c.args.rank (heap_items now.heap) (omega (arith, long, now.few)) (shut-is now.most _ (sym c.if-shuts_out.true ∙ c.shuts_out.ensures))
 
 pub returns-then-self-len-clause-ranks : goal.returns-then-self-len-clause-ranks
 returns-then-self-len-clause-ranks c =

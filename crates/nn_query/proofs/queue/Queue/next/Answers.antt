@@ -1,13 +1,11 @@
-use Rattle.std.proofs.Common.{◌≡◌, length, rules, ◌∙◌}
-use Rattle.std.specs.BinaryHeap.{heap_items, heap_len}
-use Rattle.nn_query.proofs.Taking.{first_out, none_out}
+use Rattle.std.proofs.Common.{◌≡◌}
+use Rattle.std.specs.BinaryHeap.{heap_items}
+use Rattle.std.proofs.lemmas.List.Sorted.{IsPermutation-map}
+use Rattle.nn_query.proofs.Orders.{turned_back, top-first}
 use Rattle.nn_query.proofs.queue.Queue.next.Goals as goal
 
 pub returns-in-Some-clause-some : goal.returns-in-Some-clause-some
-returns-in-Some-clause-some c =
-    first_out c.in-Some.first (heap_items c.args.self.now.heap) (heap_items c.pop.new.self) c.in-Some.ensures.permutation (c.in-Some.ensures.below_top c.args.self.now.ordered)
+returns-in-Some-clause-some c = IsPermutation-map turned_back _ _ c.in-Some.ensures.permutation
 
-pub returns-in-None-clause-none : goal.returns-in-None-clause-none
-returns-in-None-clause-none c =
-    let long : length (heap_items c.args.self.now.heap) ≡ heap_len c.args.self.now.heap = search rules in
-    none_out (heap_items c.args.self.now.heap) (long ∙ c.in-None.ensures.none)
+pub returns-in-Some-clause-first : goal.returns-in-Some-clause-first
+returns-in-Some-clause-first c = top-first c.in-Some.first.0 (heap_items c.pop.new.self) (c.in-Some.ensures.below_top c.args.self.now.ordered)

@@ -1,11 +1,11 @@
-use Rattle.std.proofs.Common.{map}
+use Rattle.std.proofs.Common.{map, subst}
+use Rattle.std.specs.Prelude.{IsPermutation}
 use Rattle.std.specs.BinaryHeap.{heap_items}
-use Rattle.nn_query.specs.Queue.{listed}
-use Rattle.nn_query.proofs.Taking.{turned_back, queued-whole, arranged-rises}
+use Rattle.std.proofs.lemmas.List.Sorted.{IsPermutation-map}
+use Rattle.nn_query.proofs.Orders.{turned_back}
 use Rattle.nn_query.proofs.queue.Queue.of.Goals as goal
 
-pub returns-clause-whole : goal.returns-clause-whole
-returns-clause-whole c = queued-whole (listed c.args.asked.now 0 c.args.rows.now) c.in_ok-found.found.items (heap_items c.from.result) c.in_ok-found.ensures c.from.ensures.1
-
-pub returns-clause-order : goal.returns-clause-order
-returns-clause-order c = arranged-rises (map turned_back (heap_items c.from.result))
+pub returns : goal.returns
+returns c =
+    let heaped = heap_items c.from.result in
+    subst (λ items. IsPermutation items (map turned_back heaped)) c.in_ok-found.ensures (IsPermutation-map turned_back c.in_ok-found.found.items heaped c.from.ensures.1)

@@ -1,0 +1,35 @@
+use Rattle.std.proofs.Common.{◌≡◌, ◌+◌, ◌≤◌, take}
+use Rattle.std.specs.Prelude.{sum_by}
+use Rattle.std.specs.List.{AllByRecursion}
+use Rattle.metric_laws.specs.Log.{Grew, each_with}
+use Rattle.nn_query.specs.Items.{items_of}
+use Rattle.nn_query.specs.Least.{least_of}
+use Rattle.nn_query.specs.Queue.{weight_of, waiting}
+use Rattle.nn_query.specs.Visits.{objects_at, CanVisit, AreBounds, reached}
+use Rattle.nn_query.proofs.Turns.{Looked}
+use Rattle.nn_query.proofs.near.visit_in_order.Given as goal
+
+abbrev pub invariant-loop-first : goal.invariant-loop-first
+invariant-loop-first g l =
+    let kind = g.R.Ruler.kind l.fn.ruler in
+    let dist = g.R.Ruler.dist kind in
+    let content = g.H.Hierarchy.content l.fn.held in
+    let object_at = g.H.Hierarchy.object_at content in
+    let nodes = g.H.Hierarchy.nodes content in
+    let is_sound = g.H.Hierarchy.is_sound content in
+    let items = items_of l.fn.queue in
+    let cs = waiting nodes items in
+    record {
+      kept : g.H.Hierarchy.content l.held ≡ content;
+      most : l.best.most ≡ l.fn.best.most;
+      same_kind : g.R.Ruler.kind l.ruler ≡ kind;
+      count : g.R.Ruler.count l.ruler ≡ g.R.Ruler.count l.fn.ruler + l.measured;
+      visitable : AllByRecursion (CanVisit (g.H.Hierarchy.can_open content) (g.H.Hierarchy.can_measure content)) (items_of l.queue);
+      light : l.measured + sum_by (weight_of nodes) (items_of l.queue) ≤ sum_by (weight_of nodes) items;
+      looked : AreBounds dist object_at l.fn.q nodes is_sound items
+          → Looked dist object_at l.fn.q nodes is_sound l.fn.best.most cs l.measured (least_of l.best) (items_of l.queue) (g.H.Hierarchy.opened l.held) (g.H.Hierarchy.opened l.fn.held + reached dist object_at l.fn.q nodes l.fn.best.most items);
+      logged : AreBounds dist object_at l.fn.q nodes is_sound items → Grew (g.R.Ruler.log l.fn.ruler) (g.R.Ruler.log l.ruler) (each_with l.fn.q (objects_at object_at (take l.measured cs)));
+    }
+
+abbrev pub decreases-loop-first : goal.decreases-loop-first
+decreases-loop-first g l = sum_by (weight_of (g.H.Hierarchy.nodes (g.H.Hierarchy.content l.fn.held))) (items_of l.queue)

@@ -1,0 +1,23 @@
+-- Rows as candidates.
+use Rattle.std.specs.Prelude.{◌≡◌, ℕ, ◌+◌, ◌<◌, List, [], ◌∷◌, length}
+use Rattle.std.specs.List.{slice_index_or}
+use Rattle.pivot_map.specs.declared.row.Row as vector_row
+use Rattle.spb_defs.specs.Pivots.{lower_bound}
+use Rattle.nn_query.specs.Queue.{Candidate, Nodes}
+
+-- the candidate for the row at a place
+abbrev pub candidate_for : List ℕ → ℕ → vector_row.Row → Candidate
+candidate_for asked place row = record { bound = lower_bound asked row.vect; id = row.id; place = place }
+
+-- a candidate for each row, the first with this place
+unfoldable pub listed : List ℕ → ℕ → List vector_row.Row → List Candidate
+listed asked place [] = []
+listed asked place (row ∷ rows) = candidate_for asked place row ∷ listed asked (place + 1) rows
+
+-- the object of the row at a place
+abbrev pub object_in : List vector_row.Row → ℕ → List ℕ
+object_in rows place = (slice_index_or rows place (record { id = 0; object = []; vect = [] })).object
+
+-- rows have no nodes over them
+abbrev pub no_nodes : Nodes
+no_nodes = record { objects = λ level place. []; bounds = λ level place. []; weight = λ level. 0 }

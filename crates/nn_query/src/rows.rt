@@ -1,0 +1,55 @@
+//! Rows, with no nodes over them.
+ghost use Rattle.std.specs.Prelude.{◌<◌, List, length, All};
+ghost use Rattle.pivot_map.specs.declared.row.Row as vector_row;
+ghost use Rattle.nn_query.specs.Listed.{object_in, no_nodes};
+
+use crate::best::Best;
+use crate::hierarchy::Hierarchy;
+use crate::queue::Queue;
+use metric_laws::Ruler;
+use pivot_map::Row;
+use spb_edge::Memory;
+
+/// The objects of rows: each stands at the place of its row.
+#[derive(Clone, Copy)]
+pub(crate) struct Rows<'a> {
+    pub(crate) rows: &'a [Row],
+}
+
+impl<'a> Hierarchy for Rows<'a> {
+    type Error = Memory;
+
+    ghost Content = { List vector_row.Row };
+
+    ghost content = { λ s. s.rows.now };
+
+    ghost nodes = { λ rows. no_nodes };
+
+    ghost object_at = { object_in };
+
+    ghost can_open = { λ rows level place. ⊥ };
+
+    ghost can_measure = { λ rows place. place < length rows };
+
+    ghost suits = { λ rows admitted. All (λ (row : vector_row.Row). admitted row.object) rows };
+
+    ghost is_sound = { λ rows level place. Unit {0} };
+
+    ghost opened = { λ s. 0 };
+
+    fn measure<R: Ruler>(&mut self, place: u32, ruler: &mut R, q: &[u8]) -> Result<u32, Memory> {
+        let rows = self.rows;
+        Ok(ruler.measure(q, rows[place as usize].object.as_slice()))
+    }
+
+    /// It is never called, since there are no nodes.
+    fn open(
+        &mut self,
+        _level: u8,
+        _place: u32,
+        _best: &Best,
+        _queue: &mut Queue,
+    ) -> Result<(), Memory> {
+        Ok(())
+    }
+}
