@@ -53,7 +53,7 @@ pub(crate) trait Hierarchy {
         ensures opened { opened self.new ≡ opened self.old }
         ensures distance { IfOk result (λ distance. distance ≡ R.dist (R.kind ruler.old) q.now (object_at (content self.old) place)) }
         ensures kind { R.kind ruler.new ≡ R.kind ruler.old }
-        ensures counted { R.count ruler.old ≤ R.count ruler.new }
+        ensures rises { R.count ruler.old ≤ R.count ruler.new }
         ensures count { OnOk result (R.count ruler.new ≡ R.count ruler.old + 1) }
         ensures log { OnOk result (Grew (R.log ruler.old) (R.log ruler.new) ((q.now, object_at (content self.old) place) ∷ [])) };
 
