@@ -1,2 +1,1 @@
 pub mod FourWords
-pub mod OneLine

@@ -1,4 +1,3 @@
-pub mod OneLine
 pub mod ReadsCommand
 pub mod HoldsObject
 pub mod LineWords

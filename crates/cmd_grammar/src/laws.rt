@@ -3,8 +3,7 @@ ghost use Rattle.metrics_builtin.specs.declared.Space.{Space};
 ghost use Rattle.metrics_builtin.specs.Space.{fits};
 ghost use Rattle.spb_defs.specs.declared.Command.{Command};
 ghost use Rattle.spb_defs.specs.Grammar.{command_of};
-ghost use Rattle.cmd_grammar.specs.OneLine.{command_text};
-ghost use Rattle.cmd_grammar.specs.ReadsCommand.{IsProper};
+ghost use Rattle.spb_defs.specs.CommandText.{IsProper, command_text};
 
 /// Each command on objects of a space that fits has one line, which is read as that command, and no
 /// other line is read.

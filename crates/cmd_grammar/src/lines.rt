@@ -4,9 +4,10 @@ ghost use Rattle.metrics_builtin.specs.declared.Space.{Space};
 ghost use Rattle.metrics_builtin.specs.Space.{fits, IsValid};
 ghost use Rattle.spb_defs.specs.Numbers.{number_within};
 ghost use Rattle.std.specs.Option.{ok_or};
+ghost use Rattle.spb_defs.specs.CommandText.{IsProper};
 ghost use Rattle.spb_defs.specs.Grammar.{collection_in, id_in, radius_in, ranks_in, object_in, sample_in, add_in, drop_in, get_in, count_in, range_in, near_in, join_in, command_in, command_of};
 ghost use Rattle.cmd_grammar.specs.LineWords.{AreWords};
-ghost use Rattle.cmd_grammar.specs.ReadsCommand.{Gives, IsProper};
+ghost use Rattle.cmd_grammar.specs.ReadsCommand.{Gives};
 
 use metrics_builtin::Space;
 use object_text::{TextError, cut, number, read_object};

@@ -1,3 +1,6 @@
+pub mod Components
+pub mod Cuts
+pub mod Numerals
 pub mod NumbersWritten
 pub mod SetReading
 pub mod StringReading

@@ -12,7 +12,7 @@ use Rattle.metrics_builtin.specs.Vectors.{components}
 use Rattle.metrics_builtin.specs.VectorLaws.{length-IsVector, length-components-div}
 use Rattle.metrics_builtin.specs.SetLaws.{length-IsSubset}
 use Rattle.spb_defs.specs.ObjectText.{numbers_text, set_text}
-use Rattle.object_text.specs.SetTexts.{text_of_none, text_of_some}
+use Rattle.spb_defs.specs.SetTexts.{text_of_none, text_of_some}
 
 joined_push : (mark : ℕ) (words : List (List ℕ)) (word : List ℕ) → 0 < length words → join_with_byte mark (words ++ word ∷ []) ≡ join_with_byte mark words ++ mark ∷ word
 joined_push mark [] word some = absurd (omega arith)

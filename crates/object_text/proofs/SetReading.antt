@@ -12,8 +12,9 @@ use Rattle.metrics_builtin.specs.Vectors.{spelled}
 use Rattle.metrics_builtin.specs.VectorLaws.{length-spelled}
 use Rattle.spb_defs.specs.Numbers.{number_within}
 use Rattle.spb_defs.specs.ObjectText.{numbers_within, numbers_in, is_rising, set_with, set_of_text}
-use Rattle.object_text.specs.Components.{consed, length-numbers_within, spelled-push}
-use Rattle.object_text.specs.SetTexts.{of, rising_test}
+use Rattle.spb_defs.specs.TextLaws.{consed, length-numbers_within}
+use Rattle.object_text.proofs.Components.{spelled-push}
+use Rattle.spb_defs.specs.SetTexts.{of, rising_test}
 
 -- ---- numbers, word by word
 

@@ -6,7 +6,7 @@ use Rattle.std.proofs.lemmas.List.Elements.{All-tail, All-cons, All-append}
 use Rattle.hex.specs.Hex.{lower_digits, encode_with, encode_lower}
 use Rattle.hex.proofs.HexLemmas.{length-encode_with}
 use Rattle.spb_defs.specs.ObjectText.{string_of_text}
-use Rattle.object_text.specs.StringTexts.{read_string, string_read}
+use Rattle.spb_defs.specs.StringTexts.{read_string, string_read}
 
 nothing : (read : Option (List ℕ)) → ((object : List ℕ) → read ≡ Some object → ⊥) → read ≡ None
 nothing None h = refl

@@ -1,11 +1,3 @@
 pub mod Reads
 pub use Rattle.spb_defs.specs.Numbers
 pub use Rattle.spb_defs.specs.ObjectText
-pub mod Cuts
-pub mod Numerals
-pub mod Components
-pub mod Texts
-pub mod VectorTexts
-pub mod StringTexts
-pub mod SetTexts
-pub mod ObjectTexts

@@ -1,12 +1,10 @@
 -- The first place of the greatest number, one number after the other.
-use Rattle.std.proofs.Common.{◌≡◌, ℕ, ◌+◌, ◌<◌, ◌≤◌, List, [], ◌∷◌, ◌++◌, length, get_or, max, take, ◌==◌, refl, sym, ap, ◌∙◌, arith, Bool, true, false, zero, suc}
+use Rattle.std.proofs.Common.{◌≡◌, ℕ, ◌+◌, ◌<◌, ◌≤◌, List, [], ◌∷◌, ◌++◌, length, get_or, max, take, ◌==◌, refl, sym, ap, ◌∙◌, arith, Bool, true, false, suc}
 use Rattle.std.proofs.lemmas.Bool.Decides.{nat_tests}
 use Rattle.std.proofs.lemmas.List.{take_more, length-take-le}
 use Rattle.spb_defs.specs.Pivots.{greatest}
 use Rattle.spb_defs.specs.Choice.{first_place}
-
-pub greatest-cons : (x : ℕ) (xs : List ℕ) → greatest (x ∷ xs) ≡ max x (greatest xs)
-greatest-cons x xs = grind (arith, nat_tests)
+use Rattle.spb_defs.specs.ChoiceLaws.{greatest-cons, first_place-at, first_place-behind, rest-greatest}
 
 -- one more number
 pub greatest-more : (xs : List ℕ) (w : ℕ) → greatest (xs ++ w ∷ []) ≡ max (greatest xs) w
@@ -24,16 +22,6 @@ first_place-rises (x ∷ xs) w above =
     let rest = first_place-rises xs w below in
     grind (arith, nat_tests)
 
--- the greatest of some numbers is the first, or the greatest of the others
-first_place-at : (n x : ℕ) (xs : List ℕ) → x ≡ n → first_place n (x ∷ xs) ≡ 0
-first_place-at n x xs is = grind (arith, nat_tests)
-
-first_place-behind : (n x : ℕ) (xs : List ℕ) → (x == n) ≡ false → first_place n (x ∷ xs) ≡ suc (first_place n xs)
-first_place-behind n x xs not = grind (arith, nat_tests)
-
-rest-greatest : (x : ℕ) (xs : List ℕ) → (x == greatest (x ∷ xs)) ≡ false → greatest (x ∷ xs) ≡ greatest xs
-rest-greatest x xs not = grind (arith, nat_tests)
-
 pub first_place-stays : (xs : List ℕ) (w : ℕ) → w ≤ greatest xs → first_place (greatest xs) (xs ++ w ∷ []) ≡ first_place (greatest xs) xs
 first_place-stays [] w within = grind (arith, nat_tests)
 first_place-stays (x ∷ xs) w within = either (λ (below : w ≤ greatest xs). first_place-stays xs w below) (x == greatest (x ∷ xs)) refl
@@ -47,44 +35,6 @@ first_place-stays (x ∷ xs) w within = either (λ (below : w ≤ greatest xs). 
         let below : w ≤ greatest xs = omega arith in
         let behind = ap (λ n. first_place n (xs ++ w ∷ [])) same ∙ rest below ∙ ap (λ n. first_place n xs) (sym same) in
         first_place-behind _ x (xs ++ w ∷ []) not ∙ ap suc behind ∙ sym (first_place-behind _ x xs not)
-
--- the first place of the greatest of some numbers is one of theirs
-pub first_place-within : (xs : List ℕ) → 0 < length xs → first_place (greatest xs) xs < length xs
-first_place-within [] some = omega arith
-first_place-within (x ∷ []) some = grind (arith, nat_tests)
-first_place-within (x ∷ y ∷ ys) some = either (first_place-within (y ∷ ys) (omega arith)) (x == greatest (x ∷ y ∷ ys)) refl
-  where
-    either : first_place (greatest (y ∷ ys)) (y ∷ ys) < length (y ∷ ys) → (b : Bool) → (x == greatest (x ∷ y ∷ ys)) ≡ b → first_place (greatest (x ∷ y ∷ ys)) (x ∷ y ∷ ys) < length (x ∷ y ∷ ys)
-    either behind true is =
-        let same : x ≡ greatest (x ∷ y ∷ ys) = grind (arith, nat_tests) in
-        let first = first_place-at _ x (y ∷ ys) same in
-        omega arith
-    either behind false not =
-        let same = ap (λ n. first_place n (y ∷ ys)) (rest-greatest x (y ∷ ys) not) in
-        let all = first_place-behind _ x (y ∷ ys) not in
-        omega arith
-
--- and the greatest stands there
-pub first_place-holds : (xs : List ℕ) → get_or xs (first_place (greatest xs) xs) 0 ≡ greatest xs
-first_place-holds [] = refl
-first_place-holds (x ∷ xs) = either (first_place-holds xs) (x == greatest (x ∷ xs)) refl
-  where
-    either : get_or xs (first_place (greatest xs) xs) 0 ≡ greatest xs → (b : Bool) → (x == greatest (x ∷ xs)) ≡ b → get_or (x ∷ xs) (first_place (greatest (x ∷ xs)) (x ∷ xs)) 0 ≡ greatest (x ∷ xs)
-    either rest true is =
-        let same : x ≡ greatest (x ∷ xs) = grind (arith, nat_tests) in
-        ap (λ k. get_or (x ∷ xs) k 0) (first_place-at _ x xs same) ∙ same
-    either rest false not =
-        let same = rest-greatest x xs not in
-        ap (λ k. get_or (x ∷ xs) k 0) (first_place-behind _ x xs not) ∙ ap (λ n. get_or xs (first_place n xs) 0) same ∙ rest ∙ sym same
-
--- no number is greater
-pub greatest-above : (xs : List ℕ) (k : ℕ) → get_or xs k 0 ≤ greatest xs
-greatest-above [] k = omega arith
-greatest-above (x ∷ xs) zero = let all = greatest-cons x xs in omega arith
-greatest-above (x ∷ xs) (suc k) =
-    let all = greatest-cons x xs in
-    let rest = greatest-above xs k in
-    omega arith
 
 -- a step of the pass
 pub step-rises : (xs : List ℕ) (i most : ℕ) → i < length xs → most ≡ greatest (take i xs) → most < get_or xs i 0 → (get_or xs i 0 ≡ greatest (take (i + 1) xs)) × (i ≡ first_place (get_or xs i 0) (take (i + 1) xs))

@@ -1,21 +1,22 @@
 -- The choice, turn by turn.
-use Rattle.std.proofs.Common.{◌≡◌, ◌≢◌, ℕ, ◌+◌, ◌-◌, ◌*◌, ◌<◌, ◌≤◌, List, [], ◌∷◌, ◌++◌, length, map, set, get_or, replicate, cond, nat_eq, not, ◌||◌, ◌==◌, count_by, sum_by, All, refl, sym, ap, subst, ◌∙◌, arith, Bool, true, false, zero, suc, length-append}
+use Rattle.std.proofs.Common.{◌≡◌, ◌≢◌, ℕ, ◌+◌, ◌-◌, ◌*◌, ◌<◌, ◌≤◌, List, [], ◌∷◌, ◌++◌, length, map, set, get_or, replicate, cond, nat_eq, not, ◌||◌, ◌==◌, count_by, sum_by, refl, sym, ap, subst, ◌∙◌, arith, Bool, true, false, zero, suc}
 use Rattle.std.proofs.Math.Bool.{or-false}
 use Rattle.std.specs.Prelude.{if◌then◌else◌}
 use Rattle.std.specs.List.{IsDistinct, filter, list_any, range_with_len}
 use Rattle.std.proofs.lemmas.Bool.Decides.{nat_tests}
 use Rattle.std.proofs.lemmas.List.{get_or-set_same, get_or-set_other, get_or-replicate, length-set, length-replicate}
-use Rattle.std.proofs.lemmas.List.Elements.{filter-append, All-append, All-cons}
+use Rattle.std.proofs.lemmas.List.Elements.{filter-append}
 use Rattle.std.proofs.lemmas.List.Folds.{list_any-append, sum_by-replicate}
 use Rattle.std.proofs.lemmas.List.Sums.{sum_by-append, sum_by-cons, sum_by-set}
-use Rattle.std.proofs.lemmas.List.FromFn.{fill_by_all, length-map-range_with_len}
+use Rattle.std.proofs.lemmas.List.FromFn.{fill_by_all}
 use Rattle.std.specs.Cmp.{nat_eq_equiv}
 use Rattle.std.proofs.lemmas.Map.Keys.{IsDistinct-push}
 use Rattle.metric_laws.specs.Log.{each_with}
 use Rattle.spb_defs.specs.Pivots.{greatest}
 use Rattle.spb_defs.specs.Choice.{sample_at, worth, first_place, next_place, chosen_places, choice_evals}
+use Rattle.spb_defs.specs.Farthest.{IsFarthestFirst}
 use Rattle.pivot_choice.specs.Worths.{is_open, worth_with, open_samples, other_samples, choice_visits}
-use Rattle.pivot_choice.proofs.Best.{greatest-cons, first_place-within, first_place-holds}
+use Rattle.spb_defs.specs.ChoiceLaws.{greatest-cons, first_place-within, first_place-holds}
 use Rattle.pivot_choice.proofs.Passing.{worth_with-none, range-more, set-rise}
 
 -- one more place of the choice
@@ -166,6 +167,10 @@ pub none-distinct : IsDistinct nat_eq []
 unfolding IsDistinct
 none-distinct = tt
 
+-- no places are the farthest first
+pub none-farthest : (dist : List ℕ → List ℕ → ℕ) (samples : List (List ℕ)) → IsFarthestFirst dist samples []
+none-farthest dist samples turn place within inside new = absurd (omega arith)
+
 -- a place that is worth something isn't chosen yet
 not-chosen-when : (a : Bool) (s : ℕ) → 0 < (if a then 0 else 1 + s) → a ≡ false
 not-chosen-when true s some = absurd (omega arith)
@@ -301,32 +306,3 @@ visits-pass dist samples before worths places chosen kept =
     ∙ visits-more dist samples before
     ∙ ap (λ (c : ℕ). front ++ each_with (sample_at samples c) (other_samples samples (chosen_places dist samples (before + 1)))) (sym kept.is_next)
     ∙ ap (λ (os : List (List ℕ)). front ++ each_with (sample_at samples chosen) os) (sym (others dist samples before worths places chosen kept)))
-
--- so many places are chosen
-pub chosen-length : (dist : List ℕ → List ℕ → ℕ) (samples : List (List ℕ)) (n : ℕ) → length (chosen_places dist samples n) ≡ n
-unfolding chosen_places
-chosen-length dist samples zero = refl
-chosen-length dist samples (suc n) =
-    let front = chosen_places dist samples n in
-    let rest = chosen-length dist samples n in
-    length-append front (next_place dist samples front ∷ []) ∙ omega arith
-
--- each of them is a place of a sample
-next-within : (dist : List ℕ → List ℕ → ℕ) (samples : List (List ℕ)) (chosen : List ℕ) → 0 < length samples → next_place dist samples chosen < length samples
-next-within dist samples chosen some =
-    let worths = map (worth dist samples chosen) (range_with_len 0 (length samples)) in
-    let many : length worths ≡ length samples = length-map-range_with_len (worth dist samples chosen) 0 (length samples) in
-    let within = first_place-within worths (omega arith) in
-    omega arith
-
-none-within : (m : ℕ) → All (λ (place : ℕ). place < m) []
-none-within m k d below = absurd (omega arith)
-
-pub chosen-within : (dist : List ℕ → List ℕ → ℕ) (samples : List (List ℕ)) (n : ℕ) → n ≤ length samples → All (λ (place : ℕ). place < length samples) (chosen_places dist samples n)
-unfolding chosen_places
-chosen-within dist samples zero enough = none-within (length samples)
-chosen-within dist samples (suc n) enough =
-    let front = chosen_places dist samples n in
-    let next = next-within dist samples front (omega arith) in
-    All-append (λ (place : ℕ). place < length samples) front (next_place dist samples front ∷ []) (chosen-within dist samples n (omega arith))
-    (All-cons (λ (place : ℕ). place < length samples) (next_place dist samples front) [] next (none-within (length samples)))

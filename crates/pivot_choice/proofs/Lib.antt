@@ -1,4 +1,3 @@
 pub mod Best
 pub mod Choosing
-pub mod Farthest
 pub mod Passing

@@ -3,11 +3,12 @@ ghost use Rattle.std.specs.List.{IsDistinct};
 ghost use Rattle.metric_laws.specs.Log.{Grew, each_with};
 ghost use Rattle.spb_defs.specs.Pivots.{greatest};
 ghost use Rattle.spb_defs.specs.Choice.{sample_at, first_place, chosen_places, choice_evals};
-ghost use Rattle.pivot_choice.specs.Farthest.{IsFarthestFirst};
+ghost use Rattle.spb_defs.specs.Farthest.{IsFarthestFirst};
 ghost use Rattle.pivot_choice.specs.Worths.{is_open, worth_with, open_samples, choice_visits};
 
 use metric_laws::Ruler;
 use pivot_map::Ids;
+use spb_defs::pivots_are_farthest_first;
 use spb_edge::{Bytes, Memory};
 use std::alloc::Global;
 
@@ -41,6 +42,8 @@ pub fn choose<R: Ruler>(
     if n == 0 {
         return Ids::of(alloc, &[]);
     }
+    // The law on the definition, for `farthest`.
+    pivots_are_farthest_first();
     let mut worths = vec![in alloc; 1; sample.len()]?;
     choose_by_worth(alloc, ruler, sample, n, worths.as_mut_slice())
 }

@@ -32,7 +32,7 @@ impl Store {
     ghost use Rattle.spb_defs.specs.Measures.{IsMetricOf};
     ghost use Rattle.spb_defs.specs.State.{closed, empty_in_memory};
     ghost use Rattle.spb_defs.specs.Step.{acted_on, reply_of, changed_by, reply_to, after, reply, next, evals_of};
-    ghost use Rattle.cmd_grammar.specs.ReadsCommand.{IsProper};
+    ghost use Rattle.spb_defs.specs.CommandText.{IsProper};
     ghost use Rattle.cmd_grammar.specs.HoldsObject.{HoldsObject};
     ghost use Rattle.session.specs.Store.{IsSound, IsReady, state_of, with_member};
     ghost use Rattle.row_table.specs.Members.{rows_at};

@@ -1,2 +1,4 @@
-pub mod FiniteMaps
+pub mod FarthestFirst
+pub mod Reached
 pub mod Refusals
+pub mod States

@@ -1,5 +1,5 @@
--- A line that is refused changes nothing, but that it may close the samples.
-use Rattle.std.proofs.Common.{◌≡◌, ◌⊎◌, inl, inr, ℕ, Bool, true, false, Option, Some, None, Result, Ok, Err, List, length, refl, ap}
+-- A line that is refused leaves the state as it was, or with its samples closed.
+use Rattle.std.proofs.Common.{◌≡◌, ℕ, ◌∙◌, subst, Bool, true, false, Option, Some, None, Result, Ok, Err, List, length, refl, ap}
 use Rattle.std.specs.Prelude.{is_some, nat_le, if◌then◌else◌}
 use Rattle.spb_edge.specs.declared.reader.Line.{Line}
 use Rattle.spb_edge.specs.declared.reader.Line.TheVariants as line
@@ -31,30 +31,59 @@ kept_by_drop : (there : Bool) (s less : State) → IsRefusal (if there then Done
 kept_by_drop true s less refused = absurd refused
 kept_by_drop false s less refused = refl
 
-kept_by : (s : State) (c : Command) → IsRefusal (reply_to s c) → (after s c ≡ s) ⊎ ((IsSample c → ⊥) × (after s c ≡ closed s))
+-- a command that closes the samples
+closed_by : (s : State) (c : Command) → (IsSample c → ⊥) → IsRefusal (reply_to s c) → after s c ≡ closed s
 unfolding reply_of changed_by
-kept_by s (command.Sample object) refused = inl (ap (λ (kept : Option (List (List ℕ))). record s { samples = kept }) (kept_by_sample s.samples object refused))
-kept_by s (command.Add c id object) refused =
+closed_by s (command.Sample object) other refused = absurd (other (object, refl))
+closed_by s (command.Add c id object) other refused =
     let t = closed s in
-    inr (λ x. absurd (let e = x.1 in cc), kept_by_add (is_some (object_at t c id)) (is_full t) t (record t { members = with_object t.members c id object }) refused)
-kept_by s (command.Discard c id) refused =
+    kept_by_add (is_some (object_at t c id)) (is_full t) t (record t { members = with_object t.members c id object }) refused
+closed_by s (command.Discard c id) other refused =
     let t = closed s in
-    inr (λ x. absurd (let e = x.1 in cc), kept_by_drop (is_some (object_at t c id)) t (record t { members = without_object t.members c id }) refused)
-kept_by s (command.Get c id) refused = inr (λ x. absurd (let e = x.1 in cc), refl)
-kept_by s (command.Count c) refused = inr (λ x. absurd (let e = x.1 in cc), refl)
-kept_by s (command.Range c r object) refused = inr (λ x. absurd (let e = x.1 in cc), refl)
-kept_by s (command.Near c k object) refused = inr (λ x. absurd (let e = x.1 in cc), refl)
-kept_by s (command.Join c d r) refused = inr (λ x. absurd (let e = x.1 in cc), refl)
+    kept_by_drop (is_some (object_at t c id)) t (record t { members = without_object t.members c id }) refused
+closed_by s (command.Get c id) other refused = refl
+closed_by s (command.Count c) other refused = refl
+closed_by s (command.Range c r object) other refused = refl
+closed_by s (command.Near c k object) other refused = refl
+closed_by s (command.Join c d r) other refused = refl
 
-kept_by_read : (s : State) (text : List ℕ) (read : Result Command What) → command_of s.space text ≡ read → IsRefusal (reply_read s read) → (after_read s read ≡ s) ⊎ (ClosesSamples s.space (line.Text text) × (after_read s read ≡ closed s))
-kept_by_read s text (Ok c) is refused = elim (kept_by s c refused) [
-  | inl same ↦ inl same
-  | inr h ↦ inr ((text, c, refl, is, h.0), h.1)
-]
-kept_by_read s text (Err failed) is refused = inl refl
-
-pub kept : (s : State) (l : Line) → IsRefusal (reply s l) → (next s l ≡ s) ⊎ (ClosesSamples s.space l × (next s l ≡ closed s))
+pub refused_command : (s : State) (l : Line) → IsRefusal (reply s l) → ClosesSamples s.space l → next s l ≡ closed s
 unfolding reply next
-kept s (line.Text text) refused = kept_by_read s text (command_of s.space text) refl refused
-kept s line.Long refused = inl refl
-kept s line.End refused = inl refl
+refused_command s l refused closes =
+    let read : Command = closes.1 in
+    let to_reply : reply s l ≡ reply_to s read = ap (reply s) closes.2 ∙ ap (reply_read s) closes.3 in
+    let to_state : next s l ≡ after s read = ap (next s) closes.2 ∙ ap (after_read s) closes.3 in
+    to_state ∙ closed_by s read closes.4 (subst IsRefusal to_reply refused)
+
+-- a sample
+kept_by : (s : State) (object : List ℕ) → IsRefusal (reply_to s (command.Sample object)) → after s (command.Sample object) ≡ s
+unfolding reply_of changed_by
+kept_by s object refused = ap (λ (kept : Option (List (List ℕ))). record s { samples = kept }) (kept_by_sample s.samples object refused)
+
+-- by the command that the text is read as
+module _ (s : State) (text : List ℕ) where
+  abbrev Others : Command → Type 0
+  Others c = (command_of s.space text ≡ Ok c) → (ClosesSamples s.space (line.Text text) → ⊥) → IsRefusal (reply_to s c) → after s c ≡ s
+
+  closing : (c : Command) → (IsSample c → ⊥) → Others c
+  closing c other is keeps refused = absurd (keeps (text, c, refl, is, other))
+
+  by_command : (c : Command) → Others c
+  by_command (command.Sample object) is keeps refused = kept_by s object refused
+  by_command (command.Add c id object) is keeps refused = closing (command.Add c id object) (λ x. absurd (let e = x.1 in cc)) is keeps refused
+  by_command (command.Discard c id) is keeps refused = closing (command.Discard c id) (λ x. absurd (let e = x.1 in cc)) is keeps refused
+  by_command (command.Get c id) is keeps refused = closing (command.Get c id) (λ x. absurd (let e = x.1 in cc)) is keeps refused
+  by_command (command.Count c) is keeps refused = closing (command.Count c) (λ x. absurd (let e = x.1 in cc)) is keeps refused
+  by_command (command.Range c r object) is keeps refused = closing (command.Range c r object) (λ x. absurd (let e = x.1 in cc)) is keeps refused
+  by_command (command.Near c k object) is keeps refused = closing (command.Near c k object) (λ x. absurd (let e = x.1 in cc)) is keeps refused
+  by_command (command.Join c d r) is keeps refused = closing (command.Join c d r) (λ x. absurd (let e = x.1 in cc)) is keeps refused
+
+  by_text : (read : Result Command What) → command_of s.space text ≡ read → (ClosesSamples s.space (line.Text text) → ⊥) → IsRefusal (reply_read s read) → after_read s read ≡ s
+  by_text (Ok c) is keeps refused = by_command c is keeps refused
+  by_text (Err failed) is keeps refused = refl
+
+pub refused_other : (s : State) (l : Line) → IsRefusal (reply s l) → (ClosesSamples s.space l → ⊥) → next s l ≡ s
+unfolding reply next
+refused_other s (line.Text text) refused keeps = by_text s text (command_of s.space text) refl keeps refused
+refused_other s line.Long refused keeps = refl
+refused_other s line.End refused keeps = refl

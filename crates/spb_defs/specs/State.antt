@@ -1,5 +1,5 @@
 -- The state of a store: what every command is answered from.
-use Rattle.std.specs.Prelude.{◌≡◌, ℕ, ◌==◌, ◌<◌, ◌≤◌, IsTrue, Bool, true, false, nat_le, List, [], length, min, count_by, All, Option, Some, None, IfSome, if◌then◌else◌}
+use Rattle.std.specs.Prelude.{◌≡◌, ℕ, ◌==◌, ◌^◌, ◌<◌, ◌≤◌, IsTrue, Bool, true, false, nat_le, List, [], length, min, count_by, All, Option, Some, None, IfSome, if◌then◌else◌}
 use Rattle.std.specs.List.{filter_map}
 use Rattle.std.specs.List.Sorted.{IsStrictlySortedBy}
 use Rattle.std.specs.Map.{lookup, remove_entry, keys_of}
@@ -86,20 +86,25 @@ count_of members c = count_by (λ member. member.0.0 == c) members
 abbrev pub AreSamples : Space → Option (List (List ℕ)) → Type 0
 AreSamples space samples = IfSome samples (λ kept. All (IsValid space) kept × (length kept ≤ SAMPLE_LIMIT))
 
--- What holds of every state that lines lead to: the space fits; the members are a finite map from four collections'
--- ids to objects of the space, within the cap; samples and pivots are objects of the space, within their limits; and
--- while samples are kept there are no pivots and no members yet.
+-- a key is of one of the four collections, and its id is in 32 bits
+abbrev pub IsMemberKey : Key → Type 0
+IsMemberKey key = (key.0 < 4) × (key.1 < 2 ^ 32)
+
+-- What holds of every state that lines lead to: the space fits; the members are a finite map from keys to objects of
+-- the space, within the cap; samples and pivots are objects of the space, within their limits; while samples are kept
+-- there are no pivots and no members yet; and a store in a file keeps no samples and wants the pivots that it has.
 pub record IsState (s : State) : Type 0 where
   pub in_range : IsTrue (fits s.space)
   pub order : IsStrictlySortedBy key_cmp (keys_of s.members)
   pub room : length s.members ≤ s.cap
-  pub collections : All (λ member. member.0.0 < 4) s.members
+  pub keys : All (λ member. IsMemberKey member.0) s.members
   pub objects : All (λ member. IsValid s.space member.1) s.members
   pub samples : AreSamples s.space s.samples
   pub pivots : All (IsValid s.space) s.pivots
   pub few_pivots : length s.pivots ≤ s.wanted
   pub few_wanted : s.wanted ≤ PIVOT_LIMIT
   pub sampling : IfSome s.samples (λ kept. (s.pivots ≡ []) × (s.members ≡ []))
+  pub in_file : IfSome s.curve (λ curve. (s.samples ≡ None) × (s.wanted ≡ length s.pivots))
 
 -- the row of a member, where it is of the collection
 abbrev pub row_of : ℕ → Key × List ℕ → Option Row

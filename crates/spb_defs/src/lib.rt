@@ -4,17 +4,15 @@
 //! that they share with the code.
 #![tactic(auto)]
 
-ghost use Rattle.std.specs.Prelude.{◌≡◌, ◌⊎◌, ◌≤◌, ℕ, [], ◌∷◌, ◌++◌, codes};
-ghost use Rattle.spb_defs.specs.Play.{play};
-ghost use Rattle.spb_edge.specs.declared.reader.Line.{Line};
-ghost use Rattle.metrics_builtin.specs.declared.Space.{Space};
-ghost use Rattle.spb_defs.specs.State.{State, closed, empty_in_memory};
-ghost use Rattle.spb_defs.specs.FiniteMap.{IsFiniteMap};
-ghost use Rattle.spb_defs.specs.Step.{reply, next, IsRefusal, ClosesSamples};
-ghost use Rattle.spb_defs.specs.Rows.{AreAnswered, AreAnsweredWith, three_samples, thrice_ok, ended, plane};
+mod laws;
+mod rows;
 
 use answer_lists::{Ids, Pairs, Ranks};
+pub use laws::{
+    limits, pivots_are_farthest_first, reached_states, refusals_change_nothing, states_are_kept,
+};
 use metrics_builtin::Space;
+pub use rows::{worked_files, worked_kinds, worked_pivots, worked_rows, worked_samples};
 use spb_edge::Bytes;
 
 /// The longest line, in bytes without its LF.
@@ -170,84 +168,3 @@ pub enum Reply {
     /// The line is too long.
     Long,
 }
-
-/// Scripts over points with two components from 0 to 255, and what they are answered: the definitions
-/// compute it. The call does nothing.
-pub fn worked_rows()
-    ensures added { AreAnswered
-        (codes "add 0 1 0,0" ∷ codes "range 0 0 0,0" ∷ [])
-        (codes "ok" ∷ codes "range 1 evals 1 sure 0: 1" ∷ []) }
-    ensures exists { AreAnswered
-        (codes "add 0 1 0,0" ∷ codes "add 0 1 5,5" ∷ codes "get 0 1" ∷ codes "range 0 5 3,4" ∷ [])
-        (codes "ok" ∷ codes "exists" ∷ codes "object 0,0" ∷ codes "range 0 evals 1 sure 0:" ∷ []) }
-    ensures within { AreAnswered
-        (codes "add 1 7 0,1" ∷ codes "add 1 3 9,9" ∷ codes "add 2 1 0,0" ∷ codes "add 1 4294967295 1,0" ∷ codes "range 1 1 0,0" ∷ [])
-        (codes "ok" ∷ codes "ok" ∷ codes "ok" ∷ codes "ok" ∷ codes "range 2 evals 3 sure 0: 7 4294967295" ∷ []) }
-    ensures refused { AreAnswered
-        (codes "" ∷ codes "add 0 6 256,0" ∷ codes "add 4 6 1,1" ∷ codes "add 0 06 1,1" ∷ codes "add 0 1" ∷ codes "range 0 -1 3,0"
-        ∷ codes "near 0 0 3,0" ∷ codes "near 0 65537 3,0" ∷ codes "fetch 0 1" ∷ codes "add 9 06 x" ∷ [])
-        (codes "bad command" ∷ codes "bad object" ∷ codes "bad collection" ∷ codes "bad id" ∷ codes "bad command" ∷ codes "bad number"
-        ∷ codes "bad number" ∷ codes "bad number" ∷ codes "bad command" ∷ codes "bad collection" ∷ []) }
-    ensures dropped { AreAnswered
-        (codes "add 0 2 3,4" ∷ codes "drop 0 77" ∷ codes "get 0 2" ∷ codes "count 0" ∷ codes "get 3 2" ∷ codes "drop 0 2" ∷ codes "count 0" ∷ [])
-        (codes "ok" ∷ codes "absent" ∷ codes "object 3,4" ∷ codes "count 1" ∷ codes "absent" ∷ codes "ok" ∷ codes "count 0" ∷ []) }
-    ensures sampled { AreAnswered
-        (codes "sample 0,0" ∷ codes "bad" ∷ codes "sample 1,1" ∷ codes "count 0" ∷ codes "sample 1,1" ∷ codes "sample 256,0" ∷ [])
-        (codes "ok" ∷ codes "bad command" ∷ codes "ok" ∷ codes "count 0" ∷ codes "late" ∷ codes "bad object" ∷ []) }
-    // Without pivots all are evaluated, but those behind a last rank at distance 0.
-    ensures nearest { AreAnswered
-        (codes "add 0 1 0,0" ∷ codes "add 0 2 3,4" ∷ codes "add 0 3 10,0" ∷ codes "add 0 4 3,0" ∷ codes "near 0 2 3,1" ∷ codes "near 0 1 3,4" ∷ codes "near 0 9 3,0" ∷ codes "near 1 1 0,0" ∷ [])
-        (codes "ok" ∷ codes "ok" ∷ codes "ok" ∷ codes "ok" ∷ codes "near 2 evals 4: 4@1 2@3" ∷ codes "near 1 evals 2: 2@0" ∷ codes "near 4 evals 4: 4@0 1@3 2@4 3@7" ∷ codes "near 0 evals 0:" ∷ []) }
-    ensures joined { AreAnswered
-        (codes "add 0 1 0,0" ∷ codes "add 0 2 3,4" ∷ codes "add 1 1 1,1" ∷ codes "add 1 9 3,5" ∷ codes "join 0 1 3" ∷ codes "join 1 0 3" ∷ codes "join 0 0 7" ∷ codes "join 0 2 x" ∷ [])
-        (codes "ok" ∷ codes "ok" ∷ codes "ok" ∷ codes "ok" ∷ codes "join 2 evals 4 sure 0: 1-1 2-9" ∷ codes "join 2 evals 4 sure 0: 1-1 9-2" ∷ codes "join 1 evals 1 sure 0: 1-2" ∷ codes "bad number" ∷ []) }
-    // Two pivots, 0,0 and 255,0, spare the distances that they tell.
-    ensures spared { AreAnsweredWith 2
-        (three_samples ++ codes "add 0 1 0,0" ∷ codes "add 0 2 3,4" ∷ codes "add 0 3 10,0" ∷ codes "add 0 4 100,100" ∷ codes "add 0 5 255,0"
-        ∷ codes "range 0 8 3,0" ∷ codes "range 1 8 3,0" ∷ codes "range 0 4294967295 3,0" ∷ codes "near 0 2 3,0" ∷ codes "near 0 9 3,0"
-        ∷ codes "sample 1,1" ∷ codes "sample 256,0" ∷ [])
-        (thrice_ok ++ codes "ok" ∷ codes "ok" ∷ codes "ok" ∷ codes "ok" ∷ codes "ok"
-        ∷ codes "range 3 evals 4 sure 1: 1 2 3" ∷ codes "range 0 evals 2 sure 0:" ∷ codes "range 5 evals 2 sure 5: 1 2 3 4 5"
-        ∷ codes "near 2 evals 4: 1@3 2@4" ∷ codes "near 5 evals 7: 1@3 2@4 3@7 4@197 5@252"
-        ∷ codes "late" ∷ codes "bad object" ∷ []) }
-    ensures paired { AreAnsweredWith 2
-        (three_samples ++ codes "add 0 1 0,0" ∷ codes "add 0 2 3,4" ∷ codes "add 1 1 1,1" ∷ codes "add 1 9 3,5" ∷ codes "join 0 1 3" ∷ [])
-        (thrice_ok ++ codes "ok" ∷ codes "ok" ∷ codes "ok" ∷ codes "ok" ∷ codes "join 2 evals 1 sure 1: 1-1 2-9" ∷ []) }
-    ensures twins { AreAnsweredWith 2
-        (three_samples ++ codes "add 0 1 7,7" ∷ codes "add 0 2 7,7" ∷ codes "join 0 0 0" ∷ codes "add 1 8 1,0" ∷ codes "add 1 7 0,1" ∷ codes "near 1 1 0,0" ∷ [])
-        (thrice_ok ++ codes "ok" ∷ codes "ok" ∷ codes "join 1 evals 1 sure 0: 1-2" ∷ codes "ok" ∷ codes "ok" ∷ codes "near 1 evals 3: 7@1" ∷ []) }
-    // An object whose bound is the distance of the last rank is evaluated where its id is less.
-    ensures tied { AreAnsweredWith 1
-        (codes "sample 0,0" ∷ codes "add 0 9 0,2" ∷ codes "add 0 3 6,0" ∷ codes "near 0 1 2,0" ∷ [])
-        (codes "ok" ∷ codes "ok" ∷ codes "ok" ∷ codes "near 1 evals 3: 3@4" ∷ []) }
-    // More pivots are wanted than there are samples, which are all equal.
-    ensures few { AreAnsweredWith 8
-        (codes "sample 5,5" ∷ codes "sample 5,5" ∷ codes "range 0 1 5,6" ∷ [])
-        (codes "ok" ∷ codes "ok" ∷ codes "range 0 evals 2 sure 0:" ∷ []) }
-    // No LF ends the last line.
-    ensures unended { play plane (codes "range 0 0 0,0") ≡ ended (codes "range 0 evals 0 sure 0:") }
-{}
-
-/// The limits that the definitions speak of: bytes of a line, objects of a store in memory, samples,
-/// ranks that are asked for at once, and pivots. The call does nothing.
-pub fn limits()
-    ensures line { LINE_LIMIT ≡ 16384 }
-    ensures objects { MEMORY_CAP ≡ 65536 }
-    ensures samples { SAMPLE_LIMIT ≡ 4096 }
-    ensures ranks { NEAR_LIMIT ≡ 65536 }
-    ensures pivots { PIVOT_LIMIT ≡ 8 }
-{}
-
-/// A line that is refused leaves the state as it was, but that a command other than a sample closes the
-/// samples. The call does nothing.
-pub fn refusals_change_nothing()
-    ensures { (s : State) (line : Line) → IsRefusal (reply s line) → (next s line ≡ s) ⊎ (ClosesSamples s.space line × (next s line ≡ closed s)) }
-{}
-
-/// The members of an empty store in memory, and of each state that lines lead to from there, stand in
-/// rising order of their keys, each key once, and they are no more than there may be. The call does
-/// nothing.
-pub fn members_are_finite_maps()
-    ensures first { (space : Space) (wanted : ℕ) → IsFiniteMap (empty_in_memory space wanted) }
-    ensures next { (s : State) (line : Line) → IsFiniteMap s → IsFiniteMap (next s line) }
-{}

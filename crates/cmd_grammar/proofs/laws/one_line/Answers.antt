@@ -1,4 +1,4 @@
-use Rattle.cmd_grammar.proofs.OneLine.{read_line, line_read}
+use Rattle.spb_defs.specs.CommandLaws.{read_line, line_read}
 use Rattle.cmd_grammar.proofs.laws.one_line.Goals as goal
 
 pub returns : goal.returns

@@ -1,4 +1,4 @@
-use Rattle.object_text.specs.ObjectTexts.{read_text, text_read}
+use Rattle.spb_defs.specs.ObjectTexts.{read_text, text_read}
 use Rattle.object_text.proofs.laws.one_text.Goals as goal
 
 pub returns : goal.returns

@@ -1,5 +1,5 @@
 use Rattle.std.proofs.Common.{sym, ◌∙◌, rules}
-use Rattle.object_text.specs.Numerals.{number_of-empty, number_of-zero, number_of-spare_zero, number_of-digits}
+use Rattle.object_text.proofs.Numerals.{number_of-empty, number_of-zero, number_of-spare_zero, number_of-digits}
 use Rattle.object_text.proofs.numbers.value_of.Goals as goal
 
 pub returns-in_err-first : goal.returns-in_err-first

@@ -4,7 +4,7 @@ use Rattle.std.specs.Int.{IsInRange}
 use Rattle.std.specs.Str.Parse.{AllDigits, digits_value}
 use Rattle.std.proofs.lemmas.Bool.Decides.{when_true, when_false}
 use Rattle.std.proofs.lemmas.Str.Parse.{digit_at}
-use Rattle.object_text.specs.Numerals.{digits-more, value-more, value-past}
+use Rattle.object_text.proofs.Numerals.{digits-more, value-more, value-past}
 use Rattle.object_text.proofs.numbers.value_of_digits.Goals as goal
 
 no_digit : (word : List ℕ) (i : ℕ) → IsNotAsciiDigit (get_or word i 0) → i < length word → AllDigits 10 word → 2 ^ 64 ≤ digits_value 10 word

@@ -1,6 +1,6 @@
 use Rattle.std.proofs.Common.{◌≡◌, Some, rules}
 use Rattle.spb_defs.specs.ObjectText.{object_of}
-use Rattle.object_text.specs.ObjectTexts.{read_text}
+use Rattle.spb_defs.specs.ObjectTexts.{read_text}
 use Rattle.object_text.proofs.objects.read_object.Goals as goal
 
 pub returns-clause-valid : goal.returns-clause-valid

@@ -2,7 +2,7 @@ use Rattle.std.proofs.Common.{◌≡◌, ◌+◌, ◌*◌, length, sym, arith}
 use Rattle.std.specs.Prelude.{◌==◌}
 use Rattle.std.specs.List.{slice_split}
 use Rattle.spb_defs.specs.ObjectText.{vector_of_text}
-use Rattle.object_text.specs.Components.{begins, room, ends_early, fails, goes_on, last_fails, ends}
+use Rattle.object_text.proofs.Components.{begins, room, ends_early, fails, goes_on, last_fails, ends}
 use Rattle.object_text.proofs.objects.vector.Goals as goal
 
 pub loop-init : goal.loop-init

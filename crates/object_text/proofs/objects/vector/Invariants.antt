@@ -1,5 +1,5 @@
 use Rattle.spb_defs.specs.ObjectText.{vector_of_text}
-use Rattle.object_text.specs.Components.{IsBegun}
+use Rattle.object_text.proofs.Components.{IsBegun}
 use Rattle.object_text.proofs.objects.vector.Given as goal
 
 abbrev pub invariant-loop : goal.invariant-loop

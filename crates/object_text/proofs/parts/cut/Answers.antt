@@ -1,7 +1,7 @@
 use Rattle.std.proofs.Common.{◌≡◌, ◌==◌, ◌+◌, ◌∷◌, List, ℕ, take, sym, subst}
 use Rattle.std.specs.List.{slice_split}
 use Rattle.std.proofs.lemmas.List.{take_rest}
-use Rattle.object_text.specs.Cuts.{split-none, split-some}
+use Rattle.object_text.proofs.Cuts.{split-none, split-some}
 use Rattle.object_text.proofs.parts.cut.Goals as goal
 
 pub returns-in-Some : goal.returns-in-Some

@@ -2,7 +2,8 @@ use Rattle.std.proofs.Common.{◌≡◌, arith}
 use Rattle.std.proofs.lemmas.List.{take_all}
 use Rattle.spb_defs.specs.Pivots.{greatest}
 use Rattle.spb_defs.specs.Choice.{first_place}
-use Rattle.pivot_choice.proofs.Best.{step-rises, step-stays, first_place-within}
+use Rattle.spb_defs.specs.ChoiceLaws.{first_place-within}
+use Rattle.pivot_choice.proofs.Best.{step-rises, step-stays}
 use Rattle.pivot_choice.proofs.choice.best_place.Goals as goal
 use Rattle.pivot_choice.proofs.choice.best_place.Goals.{then-worth-most, else-worth-most}
 

@@ -3,9 +3,9 @@ use Rattle.std.specs.List.{IsDistinct}
 use Rattle.std.specs.Prelude.{nat_eq}
 use Rattle.std.proofs.lemmas.Result.{IfOk-weaker}
 use Rattle.spb_defs.specs.Choice.{chosen_places}
-use Rattle.pivot_choice.specs.Farthest.{IsFarthestFirst}
-use Rattle.pivot_choice.proofs.Farthest.{chosen-farthest, none-farthest}
-use Rattle.pivot_choice.proofs.Choosing.{chosen-none, chosen-length, chosen-within, none-distinct}
+use Rattle.spb_defs.specs.ChoiceLaws.{chosen-length, chosen-within}
+use Rattle.spb_defs.specs.Farthest.{IsFarthestFirst}
+use Rattle.pivot_choice.proofs.Choosing.{chosen-none, none-distinct, none-farthest}
 use Rattle.pivot_choice.proofs.choice.choose.Goals as goal
 
 pub returns-then-n-eq0-clause-places : goal.returns-then-n-eq0-clause-places
@@ -41,5 +41,4 @@ pub returns-clause-farthest : goal.returns-clause-farthest
 returns-clause-farthest g c =
     let dist = g.R.Ruler.dist (g.R.Ruler.kind c.args.ruler.now) in
     let samples = c.args.sample.now in
-    let farthest = chosen-farthest dist samples c.args.n in
-    IfOk-weaker _ _ _ (λ (places : List ℕ) (e : places ≡ chosen_places dist samples c.args.n). subst (IsFarthestFirst dist samples) (sym e) farthest) c.choose_by_worth.ensures.places
+    IfOk-weaker _ _ _ (λ (places : List ℕ) (e : places ≡ chosen_places dist samples c.args.n). ((c.pivots_are_farthest_first.ensures dist samples c.args.n places c.requires.enough).0 e).farthest) c.choose_by_worth.ensures.places

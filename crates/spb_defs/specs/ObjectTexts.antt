@@ -7,10 +7,10 @@ use Rattle.metrics_builtin.specs.declared.Space.TheVariants.{L1, LInf, Hamming, 
 use Rattle.metrics_builtin.specs.Space.{fits, IsValid}
 use Rattle.metrics_builtin.specs.SpaceLaws.{l1_ranges, linf_small, sets_small}
 use Rattle.spb_defs.specs.ObjectText.{text_of, object_of}
-use Rattle.object_text.specs.Texts.{IsFree}
-use Rattle.object_text.specs.VectorTexts.{read_vector, vector_read, IsFree-vector}
-use Rattle.object_text.specs.StringTexts.{read_string, string_read, IsFree-string}
-use Rattle.object_text.specs.SetTexts.{read_set, set_read, IsFree-set}
+use Rattle.spb_defs.specs.TextLaws.{IsFree}
+use Rattle.spb_defs.specs.VectorTexts.{read_vector, vector_read, IsFree-vector}
+use Rattle.spb_defs.specs.StringTexts.{read_string, string_read, IsFree-string}
+use Rattle.spb_defs.specs.SetTexts.{read_set, set_read, IsFree-set}
 
 linf_some : (dim most : ℕ) → IsTrue (fits (LInf dim most)) → 1 ≤ dim
 linf_some dim most h = grind (arith, nat_tests)

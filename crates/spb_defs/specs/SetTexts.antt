@@ -12,7 +12,7 @@ use Rattle.metrics_builtin.specs.VectorLaws.{components-spelled}
 use Rattle.metrics_builtin.specs.Sets.{IsSubset, IsRisingWithin}
 use Rattle.metrics_builtin.specs.SetLaws.{rising-tail, components-IsSubset}
 use Rattle.spb_defs.specs.ObjectText.{numbers_text, set_text, numbers_in, is_rising, set_with, set_of_text}
-use Rattle.object_text.specs.Texts.{AreRead, numbers_in-text, text-numbers_in, IsFree, IsFree-numbers_text}
+use Rattle.spb_defs.specs.TextLaws.{AreRead, numbers_in-text, text-numbers_in, IsFree, IsFree-numbers_text}
 
 -- ---- rising numbers
 

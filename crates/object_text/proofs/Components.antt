@@ -1,75 +1,19 @@
 -- The text of a vector, read from the left: what the components so far leave to be read.
-use Rattle.std.proofs.Common.{◌≡◌, ℕ, ◌+◌, ◌*◌, ◌<◌, ◌≤◌, ◌==◌, Bool, true, false, cond, List, [], ◌∷◌, ◌++◌, length, get_or, take, drop, refl, sym, ap, subst, ◌∙◌, arith, Option, Some, None, nat_le, append_assoc, suc}
-use Rattle.std.specs.Prelude.{option_and_then, All}
+use Rattle.std.proofs.Common.{◌≡◌, ℕ, ◌+◌, ◌*◌, ◌<◌, ◌==◌, Bool, true, false, cond, List, [], ◌∷◌, ◌++◌, length, take, drop, refl, sym, ap, ◌∙◌, arith, Option, Some, None, append_assoc}
+use Rattle.std.specs.Prelude.{option_and_then}
 use Rattle.std.specs.Int.{w32, to_be_bytes}
 use Rattle.std.specs.List.{slice_split, position, flat_map, count_by}
 use Rattle.std.proofs.lemmas.Bool.Decides.{nat_tests}
 use Rattle.std.proofs.lemmas.List.{length-append, append-nil}
-use Rattle.std.proofs.lemmas.List.Elements.{All-from_get_or, All-cons}
 use Rattle.std.proofs.lemmas.Grind.{flat_map-append}
-use Rattle.std.proofs.lemmas.List.Splits.{slice_split_none, length-slice_split}
-use Rattle.std.proofs.lemmas.Option.{cond_some}
-use Rattle.std.proofs.lemmas.Str.Parse.{digit_at}
-use Rattle.metrics_builtin.specs.Vectors.{spelled, IsVector}
-use Rattle.metrics_builtin.specs.VectorLaws.{IsVector-spelled, length-spelled}
-use Rattle.spb_defs.specs.Numbers.{number_of, at_most, number_within}
-use Rattle.spb_defs.specs.ObjectText.{numbers_within, numbers_in, vector_with, vector_of_text}
-use Rattle.object_text.specs.Numerals.{number_of-some}
-use Rattle.object_text.specs.Cuts.{split-none, split-some}
-
--- ---- a number of at most a bound
-
-pub at_most-some : (bound n : ℕ) (read : Option ℕ) → at_most bound read ≡ Some n → (read ≡ Some n) × (n ≤ bound)
-at_most-some bound n None e = absurd (cc)
-at_most-some bound n (Some m) e =
-    let test = cond_some (nat_le m bound) m n e in
-    let low : nat_le m bound ≡ true = test.0 in
-    let same : m ≡ n = test.1 in
-    (ap (λ (k : ℕ). Some k) same, grind (arith, nat_tests))
-
-pub number_within-le : (bound n : ℕ) (word : List ℕ) → number_within bound word ≡ Some n → n ≤ bound
-number_within-le bound n word e = (at_most-some bound n (number_of word) e).1
-
-no_comma : (x : ℕ) → 48 ≤ x → (x == 44) ≡ false
-no_comma x h = grind (arith, nat_tests)
-
--- a number has no comma
-pub number_within-whole : (bound n : ℕ) (word : List ℕ) → number_within bound word ≡ Some n → slice_split (λ b. b == 44) word ≡ word ∷ []
-number_within-whole bound n word e =
-    let plain = number_of-some word n (at_most-some bound n (number_of word) e).0 in
-    slice_split_none (λ b. b == 44) word (All-from_get_or (λ x. (x == 44) ≡ false) word 0 (λ k h. no_comma (get_or word k 0) (digit_at word k plain.digits h).0))
-
--- ---- numbers of at most a bound
-
--- what is read of the first word and of the rest
-pub record IsConsed (first : Option ℕ) (others : Option (List ℕ)) (ns : List ℕ) : Type 0 where
-  pub number : ℕ
-  pub numbers : List ℕ
-  pub here : first ≡ Some number
-  pub behind : others ≡ Some numbers
-  pub both : ns ≡ number ∷ numbers
-
-pub consed : (first : Option ℕ) (others : Option (List ℕ)) (ns : List ℕ) → option_and_then (λ n. option_and_then (λ ms. Some (n ∷ ms)) others) first ≡ Some ns → IsConsed first others ns
-consed None others ns e = absurd (cc)
-consed (Some n) None ns e = absurd (cc)
-consed (Some n) (Some ms) ns e = record { number = n; numbers = ms; here = refl; behind = refl; both = cc }
-
-pub nil_some : (ns : List ℕ) → ◌≡◌ {A = Option (List ℕ)} (Some []) (Some ns) → ns ≡ []
-nil_some ns e = cc
-
-pub length-numbers_within : (bound : ℕ) (words : List (List ℕ)) (ns : List ℕ) → numbers_within bound words ≡ Some ns → length ns ≡ length words
-length-numbers_within bound [] ns e = ap length (nil_some ns e)
-length-numbers_within bound (word ∷ words) ns e =
-    let parts = consed (number_within bound word) (numbers_within bound words) ns e in
-    let rest : length parts.numbers ≡ length words = length-numbers_within bound words parts.numbers parts.behind in
-    ap length parts.both ∙ ap suc rest
-
-pub All-numbers_within : (bound : ℕ) (words : List (List ℕ)) (ns : List ℕ) → numbers_within bound words ≡ Some ns → All (λ n. n ≤ bound) ns
-All-numbers_within bound [] ns e = subst (All (λ n. n ≤ bound)) (sym (nil_some ns e)) (λ k d h. absurd (omega arith))
-All-numbers_within bound (word ∷ words) ns e =
-    let parts = consed (number_within bound word) (numbers_within bound words) ns e in
-    let rest : All (λ n. n ≤ bound) parts.numbers = All-numbers_within bound words parts.numbers parts.behind in
-    subst (All (λ n. n ≤ bound)) (sym parts.both) (All-cons (λ n. n ≤ bound) parts.number parts.numbers (number_within-le bound parts.number word parts.here) rest)
+use Rattle.std.proofs.lemmas.List.Splits.{length-slice_split}
+use Rattle.metrics_builtin.specs.Vectors.{spelled}
+use Rattle.metrics_builtin.specs.VectorLaws.{length-spelled}
+use Rattle.spb_defs.specs.Numbers.{number_within}
+use Rattle.spb_defs.specs.ObjectText.{numbers_within, vector_with, vector_of_text}
+use Rattle.spb_defs.specs.NumberLaws.{number_within-whole}
+use Rattle.spb_defs.specs.TextLaws.{length-numbers_within}
+use Rattle.object_text.proofs.Cuts.{split-none, split-some}
 
 -- ---- the components so far, and the rest
 
@@ -177,19 +121,3 @@ ends dim most done n object new rest whole b end some e =
     let bytes : new ≡ spelled (b.numbers ++ n ∷ []) = e ∙ ap (λ (bytes : List ℕ). bytes ++ to_be_bytes w32 n) b.bytes ∙ sym (spelled-push b.numbers n) in
     b.goes_on ∙ ap (completed dim most b.numbers) (number_within-whole most n rest some) ∙ completed-more dim most n b.numbers rest [] some
     ∙ completed-whole dim most (b.numbers ++ n ∷ []) (omega arith) ∙ ap (λ (o : List ℕ). Some o) (sym bytes)
-
--- ---- what is read is an object
-
-valid_numbers : (dim most : ℕ) (words : List (List ℕ)) (read : Option (List ℕ)) (object : List ℕ) → ((ns : List ℕ) → read ≡ Some ns → All (λ n. n ≤ most) ns) → option_and_then (vector_with dim) read ≡ Some object → IsVector dim most object
-valid_numbers dim most words None object h e = absurd (cc)
-valid_numbers dim most words (Some ns) object h e =
-    let test = cond_some (length ns == dim) (spelled ns) object e in
-    let long : (length ns == dim) ≡ true = test.0 in
-    let many : length ns ≡ dim = grind (arith, nat_tests) in
-    subst (IsVector dim most) test.1 (IsVector-spelled dim most ns many (h ns refl))
-
-pub vector_of_text-valid : (dim most : ℕ) (text object : List ℕ) → vector_of_text dim most text ≡ Some object → IsVector dim most object
-unfolding vector_of_text
-vector_of_text-valid dim most text object e =
-    valid_numbers dim most (slice_split (λ b. b == 44) text) (numbers_in most text) object
-    (All-numbers_within most (slice_split (λ b. b == 44) text)) e

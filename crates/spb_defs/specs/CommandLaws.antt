@@ -18,10 +18,10 @@ use Rattle.spb_defs.specs.declared.What.TheVariants as what
 use Rattle.spb_defs.specs.Numbers.{at_least, number_within}
 use Rattle.spb_defs.specs.ObjectText.{object_of, text_of}
 use Rattle.spb_defs.specs.Grammar.{◌>>=◌, collection_in, id_in, radius_in, ranks_in, object_in, sample_in, add_in, drop_in, get_in, count_in, range_in, near_in, join_in, command_in, command_of}
-use Rattle.object_text.specs.Texts.{number_within-decimal, decimal-number_within, IsFree, IsFree-decimal, split_joined}
-use Rattle.object_text.specs.ObjectTexts.{IsFree-text_of, read_text, text_read}
-use Rattle.cmd_grammar.specs.OneLine.{words_of, command_text}
-use Rattle.cmd_grammar.specs.ReadsCommand.{IsProper}
+use Rattle.spb_defs.specs.NumberLaws.{number_within-decimal, decimal-number_within}
+use Rattle.spb_defs.specs.TextLaws.{IsFree, IsFree-decimal, split_joined}
+use Rattle.spb_defs.specs.ObjectTexts.{IsFree-text_of, read_text, text_read}
+use Rattle.spb_defs.specs.CommandText.{IsProper, words_of, command_text}
 
 -- ---- words that are read in turn
 
@@ -124,9 +124,6 @@ four_same a b c d w x y z e f g h = cc
 
 abbrev Means : Space → List (List ℕ) → Command → Type 0
 Means space words command = IsProper space command × (words ≡ words_of space command)
-
-abbrev Named : List ℕ → List ℕ → Type 0
-Named name word = bytes_eq name word ≡ true
 
 is_name : (name word : List ℕ) → bytes_eq name word ≡ true → name ≡ word
 is_name name word same = (bytes_eq-Decides name word).0 same

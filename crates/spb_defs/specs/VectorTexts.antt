@@ -6,8 +6,28 @@ use Rattle.std.proofs.lemmas.Option.{cond_some}
 use Rattle.metrics_builtin.specs.Vectors.{components, spelled, IsVector}
 use Rattle.metrics_builtin.specs.VectorLaws.{components-spelled, components-IsVector}
 use Rattle.spb_defs.specs.ObjectText.{numbers_text, numbers_in, vector_with, vector_of_text}
-use Rattle.object_text.specs.Components.{vector_of_text-valid}
-use Rattle.object_text.specs.Texts.{AreRead, numbers_in-text, text-numbers_in, IsFree, IsFree-numbers_text}
+use Rattle.metrics_builtin.specs.VectorLaws.{IsVector-spelled}
+use Rattle.std.specs.List.{slice_split}
+use Rattle.spb_defs.specs.TextLaws.{All-numbers_within}
+use Rattle.spb_defs.specs.TextLaws.{AreRead, numbers_in-text, text-numbers_in, IsFree, IsFree-numbers_text}
+
+-- ---- what is read is an object
+
+valid_numbers : (dim most : ℕ) (words : List (List ℕ)) (read : Option (List ℕ)) (object : List ℕ) → ((ns : List ℕ) → read ≡ Some ns → All (λ n. n ≤ most) ns) → option_and_then (vector_with dim) read ≡ Some object → IsVector dim most object
+valid_numbers dim most words None object h e = absurd (cc)
+valid_numbers dim most words (Some ns) object h e =
+    let test = cond_some (length ns == dim) (spelled ns) object e in
+    let long : (length ns == dim) ≡ true = test.0 in
+    let many : length ns ≡ dim = grind (arith, nat_tests) in
+    subst (IsVector dim most) test.1 (IsVector-spelled dim most ns many (h ns refl))
+
+pub vector_of_text-valid : (dim most : ℕ) (text object : List ℕ) → vector_of_text dim most text ≡ Some object → IsVector dim most object
+unfolding vector_of_text
+vector_of_text-valid dim most text object e =
+    valid_numbers dim most (slice_split (λ b. b == 44) text) (numbers_in most text) object
+    (All-numbers_within most (slice_split (λ b. b == 44) text)) e
+
+-- ---- what is read has its text
 
 -- what is read of the words
 record IsOf (dim : ℕ) (read : Option (List ℕ)) (object : List ℕ) : Type 0 where

@@ -16,7 +16,7 @@ use Rattle.hex.proofs.Pairs.{decode_sized-pairs}
 use Rattle.hex.proofs.HexLemmas.{length-encode_with, decode_pairs-encode_with, decode_pairs-ok, IsDigits-lower_digits}
 use Rattle.metrics_builtin.specs.Strings.{IsString}
 use Rattle.spb_defs.specs.ObjectText.{string_with, string_of_text}
-use Rattle.object_text.specs.Texts.{IsFree}
+use Rattle.spb_defs.specs.TextLaws.{IsFree}
 
 -- ---- what is read
 

@@ -1,43 +1,50 @@
--- The text of a number, or of several, is read as it, and what is read is its text.
-use Rattle.std.proofs.Common.{◌≡◌, ℕ, ◌+◌, ◌^◌, ◌<◌, ◌≤◌, ◌==◌, Bool, true, false, cond, List, [], ◌∷◌, length, get_or, map, refl, sym, ap, ◌∙◌, arith, Option, Some, None, nat_le}
+-- Numbers with commas between them: they are read from their text, and what is read has the text.
+use Rattle.std.proofs.Common.{◌≡◌, ℕ, ◌+◌, ◌<◌, ◌≤◌, ◌==◌, true, false, List, [], ◌∷◌, length, get_or, refl, sym, ap, subst, ◌∙◌, arith, Option, Some, None, suc, ◌^◌, map}
 use Rattle.std.specs.Prelude.{option_and_then, All, count_by}
-use Rattle.std.specs.Fmt.{decimal}
 use Rattle.std.specs.Int.{IsInRange}
-use Rattle.std.specs.List.{slice_split, join_with_byte, AllByRecursion}
-use Rattle.std.specs.Str.Parse.{AllDigits, digits_value}
+use Rattle.std.specs.List.{slice_split, count_by, join_with_byte, AllByRecursion}
 use Rattle.std.proofs.lemmas.Bool.Decides.{nat_tests}
-use Rattle.std.proofs.lemmas.Fmt.{decimal_is_IsNumeral, decimal-digits_value}
 use Rattle.std.proofs.lemmas.List.{length-map}
-use Rattle.std.proofs.lemmas.List.Elements.{All-from_get_or, All-append, All-cons, All-tail}
-use Rattle.std.proofs.lemmas.List.Splits.{slice_split_none, slice_split_at, join_with_byte-slice_split, length-slice_split}
-use Rattle.std.proofs.lemmas.Str.Parse.{numerals_by_value, tells_digits, digit_at}
-use Rattle.spb_defs.specs.Numbers.{number_of, at_most, number_within}
-use Rattle.spb_defs.specs.ObjectText.{numbers_text, numbers_within, numbers_in}
-use Rattle.object_text.specs.Numerals.{number_of-some, number_of-plain, plain_decimal}
-use Rattle.object_text.specs.Components.{consed, nil_some, at_most-some, length-numbers_within, All-numbers_within}
+use Rattle.std.proofs.lemmas.List.Elements.{All-from_get_or, All-cons, All-append, All-tail}
+use Rattle.std.proofs.lemmas.List.Splits.{slice_split_none, length-slice_split, slice_split_at, join_with_byte-slice_split}
+use Rattle.std.proofs.lemmas.Str.Parse.{digit_at}
+use Rattle.spb_defs.specs.Numbers.{number_within}
+use Rattle.spb_defs.specs.ObjectText.{numbers_within, numbers_in, numbers_text}
+use Rattle.std.specs.Fmt.{decimal}
+use Rattle.std.proofs.lemmas.Fmt.{decimal_is_IsNumeral}
+use Rattle.spb_defs.specs.NumberLaws.{number_within-le, number_within-decimal, decimal-number_within}
 
--- ---- numbers
+-- ---- numbers of at most a bound
 
-same_some : (m n : ℕ) → ◌≡◌ {A = Option ℕ} (Some m) (Some n) → m ≡ n
-same_some m n e = cc
+-- what is read of the first word and of the rest
+pub record IsConsed (first : Option ℕ) (others : Option (List ℕ)) (ns : List ℕ) : Type 0 where
+  pub number : ℕ
+  pub numbers : List ℕ
+  pub here : first ≡ Some number
+  pub behind : others ≡ Some numbers
+  pub both : ns ≡ number ∷ numbers
 
--- the word is the number in decimal
-pub number_within-decimal : (bound n : ℕ) (word : List ℕ) → number_within bound word ≡ Some n → (word ≡ decimal n) × (n ≤ bound)
-number_within-decimal bound n word e =
-    let read = at_most-some bound n (number_of word) e in
-    let p = number_of-some word n read.0 in
-    let value : digits_value 10 word ≡ n = same_some (digits_value 10 word) n (sym (number_of-plain word p) ∙ read.0) in
-    let same : decimal (digits_value 10 word) ≡ word =
-    decimal-digits_value (numerals_by_value (AllDigits 10) tells_digits) word p.digits p.some p.first p.small in
-    (sym same ∙ ap decimal value, read.1)
+pub consed : (first : Option ℕ) (others : Option (List ℕ)) (ns : List ℕ) → option_and_then (λ n. option_and_then (λ ms. Some (n ∷ ms)) others) first ≡ Some ns → IsConsed first others ns
+consed None others ns e = absurd (cc)
+consed (Some n) None ns e = absurd (cc)
+consed (Some n) (Some ms) ns e = record { number = n; numbers = ms; here = refl; behind = refl; both = cc }
 
--- the number in decimal is read
-pub decimal-number_within : (bound n : ℕ) → n ≤ bound → n < 2 ^ 64 → number_within bound (decimal n) ≡ Some n
-decimal-number_within bound n low small =
-    let value : digits_value 10 (decimal n) ≡ n = (decimal_is_IsNumeral n small).1 in
-    let read : number_of (decimal n) ≡ Some n = number_of-plain (decimal n) (plain_decimal (decimal n) n small refl (sym value)) ∙ ap (λ (k : ℕ). Some k) value in
-    let test : nat_le n bound ≡ true = grind (arith, nat_tests) in
-    ap (at_most bound) read ∙ ap (λ (b : Bool). cond b (Some n) None) test
+pub nil_some : (ns : List ℕ) → ◌≡◌ {A = Option (List ℕ)} (Some []) (Some ns) → ns ≡ []
+nil_some ns e = cc
+
+pub length-numbers_within : (bound : ℕ) (words : List (List ℕ)) (ns : List ℕ) → numbers_within bound words ≡ Some ns → length ns ≡ length words
+length-numbers_within bound [] ns e = ap length (nil_some ns e)
+length-numbers_within bound (word ∷ words) ns e =
+    let parts = consed (number_within bound word) (numbers_within bound words) ns e in
+    let rest : length parts.numbers ≡ length words = length-numbers_within bound words parts.numbers parts.behind in
+    ap length parts.both ∙ ap suc rest
+
+pub All-numbers_within : (bound : ℕ) (words : List (List ℕ)) (ns : List ℕ) → numbers_within bound words ≡ Some ns → All (λ n. n ≤ bound) ns
+All-numbers_within bound [] ns e = subst (All (λ n. n ≤ bound)) (sym (nil_some ns e)) (λ k d h. absurd (omega arith))
+All-numbers_within bound (word ∷ words) ns e =
+    let parts = consed (number_within bound word) (numbers_within bound words) ns e in
+    let rest : All (λ n. n ≤ bound) parts.numbers = All-numbers_within bound words parts.numbers parts.behind in
+    subst (All (λ n. n ≤ bound)) (sym parts.both) (All-cons (λ n. n ≤ bound) parts.number parts.numbers (number_within-le bound parts.number word parts.here) rest)
 
 -- ---- words without a byte
 
