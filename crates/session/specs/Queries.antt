@@ -8,7 +8,7 @@ use Rattle.spb_defs.specs.declared.Command.{Command}
 use Rattle.spb_defs.specs.declared.Reply.{Reply}
 use Rattle.spb_defs.specs.State.{State, rows_of}
 use Rattle.spb_defs.specs.Step.{reply, next, reply_to, after, evals_of}
-use Rattle.cmd_grammar.specs.ReadsCommand.{IsProper}
+use Rattle.spb_defs.specs.CommandText.{IsProper}
 use Rattle.cmd_grammar.specs.HoldsObject.{HoldsObject}
 use Rattle.pivot_map.specs.declared.row.Row.{Row}
 use Rattle.pivot_map.specs.Rows.{entries_of}

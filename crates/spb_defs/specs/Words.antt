@@ -118,6 +118,10 @@ memory_asked (Some Check) = None
 memory_asked (Some (Trial seed count)) = None
 memory_asked None = None
 
+-- the store in memory that the words ask for
+abbrev pub setup_of : List (List ℕ) → Option MemorySetup
+setup_of words = memory_asked (asked_of words)
+
 -- ---- the words of what is asked for
 
 -- the words of a space: its kind and its parameters
