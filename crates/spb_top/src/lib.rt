@@ -1,12 +1,8 @@
 //! The whole of the program but for its outermost edge: its words, its run, its statuses.
 #![tactic(auto)]
 
-#[cfg(test)]
-mod plain;
 mod serve;
 mod status;
-#[cfg(test)]
-mod tests;
 mod top;
 mod turns;
 

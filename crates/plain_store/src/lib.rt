@@ -1,8 +1,12 @@
 //! The program in memory once more, by plain scans of a list: slow, and written without the code that it
-//! is compared with. The tests hold the replies of the two against each other.
+//! is compared with. Tests of the top call hold the replies of the two against each other.
+//!
+//! It stands on nothing but std, so that it is proved safe and built once, whatever changes in the store.
 //!
 //! Objects stay the texts that they came as, and distances are taken of texts. Every distance is measured
 //! for the answers; the counts say which of them the pivots would have spared.
+#![tactic(auto)]
+
 mod distances;
 mod lines;
 
@@ -51,12 +55,15 @@ struct Session<'a> {
     members: Vec<Member<'a>>,
 }
 
-/// The replies to the script, where the words ask for a session in memory.
-pub(crate) fn plain_play(
-    alloc: Global,
-    words: &[&str],
-    script: &[u8],
-) -> Result<Option<Vec<u8>>, AllocError> {
+/// The replies to the script, a line each, if the words ask for a session in memory; `None` for other words.
+///
+/// The words are those after the program's name. Each addition takes time in proportion to the objects kept,
+/// and each query measures all objects or pairs of objects, and their distances to the pivots again.
+///
+/// # Errors
+///
+/// [`AllocError`] if memory runs out.
+pub fn play(alloc: Global, words: &[&str], script: &[u8]) -> Result<Option<Vec<u8>>, AllocError> {
     let Some(setup) = setup_of(words) else {
         return Ok(None);
     };
