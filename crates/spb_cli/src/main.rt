@@ -2,14 +2,17 @@
 //! writes a reply to each on standard output.
 #![tactic(auto)]
 
-ghost use Rattle.std.specs.Prelude.{◌≡◌, ◌≢◌, ◌⊎◌, None, map, IfErr};
+ghost use Rattle.std.specs.Prelude.{◌≡◌, ◌≢◌, ◌⊎◌, None, map, IfErr, OnOk};
 ghost use Rattle.std.specs.String.{string_bytes};
-ghost use Rattle.spb_top.specs.Words.{setup_of};
+ghost use Rattle.std.specs.Io.KnownBytes.{Appends};
 ghost use Rattle.std.specs.IoError.{error_kind};
+ghost use Rattle.std.specs.Process.{exit_status};
+ghost use Rattle.spb_top.specs.Words.{setup_of};
+ghost use Rattle.spb_top.specs.Status.{code_of, status_text};
 
 mod streams;
 
-use spb_edge::{Bytes, SureDisk, put_all};
+use spb_edge::{Bytes, SureDisk};
 use spb_top::{Status, code, run, status_line};
 use std::alloc::Global;
 use std::env::Env;
@@ -23,8 +26,7 @@ fn main(rt: HostRuntime) -> ExitCode {
         Ok(words) => work(rt.alloc(), words.as_slice(), rt.stdin(), rt.stdout()),
         Err(status) => status,
     };
-    report(rt.alloc(), &status, rt.stderr());
-    ExitCode::from(code(&status))
+    end_with(rt.alloc(), &status, rt.stderr())
 }
 
 /// The arguments after the program's name.
@@ -71,14 +73,33 @@ fn work<R: Read + Drop, W: Write + Drop>(
     run(alloc, words, &mut input, &mut output, &mut disk)
 }
 
-/// Writes the line of the status where it has one. That it can't be written changes nothing.
-fn report<W: Write + Drop>(alloc: Global, status: &Status, writer: W) {
+/// What the program ends with. The line of the status is written first, where it has one; that it can't be
+/// written changes nothing.
+fn end_with<W: Write + Drop>(alloc: Global, status: &Status, writer: W) -> ExitCode
+    ensures number { exit_status result ≡ code_of status.now }
+{
+    let mut writer = writer;
+    let _ = report(alloc, status, &mut writer);
+    ExitCode::from(code(status))
+}
+
+/// Writes the line of the status where it has one.
+///
+/// # Errors
+///
+/// `OutOfMemory` if there is no memory for the line, and otherwise the error of the write or of the flush,
+/// before which a prefix of the line may have been written.
+fn report<W: Write>(alloc: Global, status: &Status, writer: &mut W) -> io::Result<()>
+    ensures line { OnOk result (Appends (W.contents writer.old) (W.contents writer.new) (status_text status.now)) }
+{
     let Ok(mut line) = Bytes::of(alloc, &[]) else {
-        return;
+        return Err(io::Error::from(ErrorKind::OutOfMemory));
     };
-    if status_line(status, &mut line).is_ok() {
-        let _ = put_all(&mut StdSink::new(writer), line.as_slice());
-    }
+    let Ok(()) = status_line(status, &mut line) else {
+        return Err(io::Error::from(ErrorKind::OutOfMemory));
+    };
+    writer.write_all(line.as_slice())?;
+    writer.flush()
 }
 
 #[cfg(test)]
@@ -146,11 +167,11 @@ mod tests {
     }
 
     #[test]
-    fn only_a_status_that_has_a_line_is_reported(rt: HostRuntime) {
+    fn the_line_of_a_status_is_written(rt: HostRuntime) {
         let mut text = Vec::new(rt.alloc());
-        report(rt.alloc(), &Status::Done, &mut text);
+        assert!(rt; end_with(rt.alloc(), &Status::Done, &mut text) == ExitCode::SUCCESS);
         assert!(rt; text.is_empty());
-        report(rt.alloc(), &Status::Usage, &mut text);
+        assert!(rt; end_with(rt.alloc(), &Status::Usage, &mut text) == ExitCode::from(2));
         assert!(rt; text.as_slice() == b"spb: usage\n".as_slice());
     }
 
