@@ -1,65 +1,10 @@
 //! Ranges and joins, worked by hand.
-ghost use Rattle.std.specs.Prelude.{◌≡◌, ◌≢◌, ◌≤◌, true, IsTrue, IfOk, All, length};
-ghost use Rattle.pivot_map.specs.declared.row.Row.{Row};
-ghost use Rattle.pivot_map.specs.Rows.{ArePivots, AreRows};
-
 use super::*;
 use metric_laws::{Counted, Metric, Traced};
 use metrics_builtin::{Hamming, L1, LInf, SetDiff};
-use pivot_map::{Row, map_object};
-use spb_edge::{Bytes, Memory};
+use row_samples::{pair, pivots_of, rows_of};
 use std::alloc::Global;
 use std::test::Fail;
-
-// the object of two numbers below 256
-fn pair(x: u8, y: u8) -> [u8; 8] {
-    [0, 0, 0, x, 0, 0, 0, y]
-}
-
-// the pivots, where the metric admits them
-fn pivots_of<M: Metric>(alloc: Global, metric: M, objects: &[[u8; 8]]) -> Result<Vec<Bytes>, Memory>
-    ensures { IfOk result (λ pivots. ArePivots (M.admitted metric) pivots.items) }
-{
-    let mut pivots = Vec::new(alloc);
-    for object in objects {
-        if pivots.len() == 8 || !metric.admits(object) {
-            return Err(Memory);
-        }
-        pivots.push(Bytes::of(alloc, object)?)?;
-    }
-    Ok(pivots)
-}
-
-// whether no row has the id
-fn is_new(rows: &[Row], id: u32) -> bool
-    ensures { IsTrue result → All (λ (row : Row). row.id ≢ id) rows.now }
-{
-    rows.iter().all(|row| row.id != id)
-}
-
-// the rows of these objects under these ids, where the metric admits them and no two ids are equal
-fn rows_of<M: Metric>(
-    alloc: Global,
-    metric: M,
-    pivots: &[Bytes],
-    entries: &[(u32, [u8; 8])],
-) -> Result<Vec<Row>, Memory>
-    requires { ArePivots (M.admitted metric) pivots.now }
-    ensures { IfOk result (λ rows. AreRows (M.admitted metric) (M.dist metric) pivots.now rows.items) }
-{
-    let mut rows = Vec::new(alloc);
-    for (id, object) in entries {
-        if rows.len() == 1 << 31 || !metric.admits(object) || !is_new(&rows, *id) {
-            return Err(Memory);
-        }
-        rows.push(Row {
-            id: *id,
-            object: Bytes::of(alloc, object)?,
-            vect: map_object(&mut Counted::new(metric), pivots, object),
-        })?;
-    }
-    Ok(rows)
-}
 
 fn ranged<M: Metric>(
     alloc: Global,
@@ -68,13 +13,14 @@ fn ranged<M: Metric>(
     entries: &[(u32, [u8; 8])],
     q: &[u8; 8],
     r: u32,
-) -> Result<RangeAnswer, Memory> {
+) -> Result<RangeAnswer, Fail> {
     let pivots = pivots_of(alloc, metric, pivots)?;
     let rows = rows_of(alloc, metric, &pivots, entries)?;
     if !metric.admits(q) {
-        return Err(Memory);
+        return Err(Fail::new("the metric doesn't admit the query"));
     }
-    range_rows(alloc, &rows, &pivots, &mut Counted::new(metric), q, r)
+    let mut ruler = Counted::new(metric);
+    Ok(range_rows(alloc, &rows, &pivots, &mut ruler, q, r)?)
 }
 
 fn joined<M: Metric>(
@@ -84,12 +30,12 @@ fn joined<M: Metric>(
     left: &[(u32, [u8; 8])],
     right: &[(u32, [u8; 8])],
     r: u32,
-) -> Result<JoinAnswer, Memory> {
+) -> Result<JoinAnswer, Fail> {
     let pivots = pivots_of(alloc, metric, pivots)?;
     let left = rows_of(alloc, metric, &pivots, left)?;
     let right = rows_of(alloc, metric, &pivots, right)?;
     let mut ruler = Counted::new(metric);
-    join_rows(alloc, &left, &right, &pivots, false, &mut ruler, r)
+    Ok(join_rows(alloc, &left, &right, &pivots, false, &mut ruler, r)?)
 }
 
 fn joined_with_itself<M: Metric>(
@@ -98,11 +44,11 @@ fn joined_with_itself<M: Metric>(
     pivots: &[[u8; 8]],
     entries: &[(u32, [u8; 8])],
     r: u32,
-) -> Result<JoinAnswer, Memory> {
+) -> Result<JoinAnswer, Fail> {
     let pivots = pivots_of(alloc, metric, pivots)?;
     let rows = rows_of(alloc, metric, &pivots, entries)?;
     let mut ruler = Counted::new(metric);
-    join_rows(alloc, &rows, &rows, &pivots, true, &mut ruler, r)
+    Ok(join_rows(alloc, &rows, &rows, &pivots, true, &mut ruler, r)?)
 }
 
 const PLANE: L1 = L1 { dim: 2, most: 255 };
@@ -152,7 +98,7 @@ fn a_range_asks_the_pivots_first(rt: HostRuntime) -> Result<(), Fail> {
     let mut ruler = Traced::new(rt.alloc(), PLANE);
     let q = pair(3, 0);
     if !PLANE.admits(&q) {
-        return Err(Memory.into());
+        return Err(Fail::new("the metric doesn't admit the query"));
     }
     range_rows(rt.alloc(), &rows, &pivots, &mut ruler, &q, 8)?;
     let measured = [pair(0, 0), pair(255, 0), pair(3, 4), pair(10, 0)];
@@ -185,9 +131,11 @@ fn a_join_measures_the_open_pairs(rt: HostRuntime) -> Result<(), Fail> {
     // (1, 1) and (2, 2) are apart: their distances to the first pivot are 2 and 4.
     assert_eq!(rt; ruler.log().len(), 2);
     for (left, right) in [(pair(1, 1), pair(2, 1)), (pair(2, 1), pair(2, 2))] {
-        assert!(rt; ruler.log().iter().any(|seen| {
-            seen.0.as_slice() == left.as_slice() && seen.1.as_slice() == right.as_slice()
-        }));
+        assert!(rt;
+            ruler.log().iter().any(|seen| {
+                seen.0.as_slice() == left.as_slice() && seen.1.as_slice() == right.as_slice()
+            })
+        );
     }
     Ok(())
 }

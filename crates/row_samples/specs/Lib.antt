@@ -1,0 +1,1 @@
+pub use Rattle.pivot_map.specs.Rows
