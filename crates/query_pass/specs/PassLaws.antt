@@ -183,4 +183,3 @@ count_same h test test' (x ∷ xs) same =
     let b = sum_by-cons (λ y. if test' y then 1 else 0) (h x) (map h xs) in
     let c = count_same h test test' xs (All-tail (λ x. test x ≡ test' (h x)) x xs same) in
     let d = ap one_if (All-head (λ x. test x ≡ test' (h x)) x xs same) in omega (arith, a, b, c, d)
-
