@@ -58,7 +58,7 @@ pub fn near_rows<R: Ruler>(
 
 /// Looks at what waits in its order, nodes before objects of the same bound, up to the first that the best
 /// shut out: it opens nodes into the queue, and measures objects and puts their ranks among the best. It
-/// answers how many it measured. What it finds is told if no bound is too great.
+/// answers how many it measured. Its clauses say what it found if no bound is too great.
 fn visit_in_order<H: Hierarchy, R: Ruler>(
     held: &mut H,
     mut queue: Queue,
