@@ -1,6 +1,6 @@
 -- The order of what waits, and the order of objects.
-use Rattle.std.proofs.Common.{◌≡◌, ℕ, ◌≤◌, ◌<◌, ◌==◌, Bool, true, false, cond, ◌&&◌, ◌||◌, List, [], ◌∷◌, ◌++◌, map, length, get_or, refl, sym, ap, subst, ◌∙◌, inl, inr, true≢false, arith}
-use Rattle.std.specs.Prelude.{nat_lt, IsPermutation}
+use Rattle.std.proofs.Common.{◌≡◌, ℕ, ◌<◌, ◌==◌, Bool, true, false, cond, ◌&&◌, ◌||◌, List, [], ◌∷◌, map, get_or, refl, sym, ap, ◌∙◌, inl, inr, true≢false, arith}
+use Rattle.std.specs.Prelude.{nat_lt}
 use Rattle.std.specs.List.{AllByRecursion}
 use Rattle.std.specs.List.Sorted.{IsSorted}
 use Rattle.std.specs.Ordering.{is_lt, ordering_then, nat_cmp}
@@ -19,7 +19,7 @@ use Rattle.nn_query.specs.contracts.queue.WaitingOrd.TheImpl as waiting_order
 use Rattle.nn_query.specs.declared.queue.Kind.{Kind}
 use Rattle.nn_query.specs.declared.queue.Kind.TheVariants.{Node, Object}
 use Rattle.nn_query.specs.declared.queue.Waiting.{Waiting}
-use Rattle.nn_query.specs.Queue.{by_kind, by_fields, goes_first, least_id, key_at, before, IsShut, Candidate, key_of, comes_first, Rises}
+use Rattle.nn_query.specs.Queue.{by_kind, by_fields, goes_first, least_id, key_at, before, IsShut, Candidate, comes_first, Rises}
 use Rattle.nn_query.proofs.Counting.{before-more}
 
 -- ---- the derived order

@@ -15,9 +15,9 @@ use Rattle.nn_query.specs.declared.queue.Kind.{Kind}
 use Rattle.nn_query.specs.declared.queue.Kind.TheVariants.{Node, Object}
 use Rattle.nn_query.specs.declared.queue.Waiting.{Waiting}
 use Rattle.nn_query.specs.Queue.{goes_first, least_id, key_at, before, IsShut, Candidate, key_of, comes_first, Nodes, under_kind, under, bounds_kind, bounds_under, weight_kind, weight_of, waiting}
-use Rattle.nn_query.specs.Visits.{objects_at, CanVisit, may_visit, sound_kind, IsLeast, Opens, Visited, AreBounds, reached}
+use Rattle.nn_query.specs.Visits.{objects_at, sound_kind, IsLeast, Opens, Visited, AreBounds, reached}
 use Rattle.nn_query.proofs.Counting.{order, shut-is, open-is, before-append, before-more}
-use Rattle.nn_query.proofs.Lists.{all-append, all-prefix, all-suffix, all-drop, all-weaker, all-both, all-pieces, all-moved, moved-back, count-none}
+use Rattle.nn_query.proofs.Lists.{all-append, all-drop, all-weaker, all-both, all-pieces, all-moved, moved-back, count-none}
 use Rattle.nn_query.proofs.Looking.{next-within, next-at, next-left, rank_at, ranks_at, seen-more, first-more, objects-more, no-fewer, no-more, told, ended}
 use Rattle.nn_query.proofs.Orders.{first_order, node-further, object-later, bound-later, key-later, open-first}
 

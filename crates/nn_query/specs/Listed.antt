@@ -1,5 +1,5 @@
 -- Rows as candidates.
-use Rattle.std.specs.Prelude.{◌≡◌, ℕ, ◌+◌, ◌<◌, List, [], ◌∷◌, length}
+use Rattle.std.specs.Prelude.{ℕ, ◌+◌, List, [], ◌∷◌}
 use Rattle.std.specs.List.{slice_index_or}
 use Rattle.pivot_map.specs.declared.row.Row as vector_row
 use Rattle.spb_defs.specs.Pivots.{lower_bound}

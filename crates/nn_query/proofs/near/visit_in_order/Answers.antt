@@ -1,12 +1,11 @@
-use Rattle.std.proofs.Common.{◌≡◌, ◌+◌, ◌<◌, true, false, [], ◌∷◌, ◌++◌, take, refl, sym, ap, subst, ◌∙◌, rules, arith}
-use Rattle.std.specs.Prelude.{nat_le, sum_by}
-use Rattle.std.specs.List.{AllByRecursion}
+use Rattle.std.proofs.Common.{◌≡◌, ◌+◌, true, false, [], ◌∷◌, ◌++◌, take, refl, sym, ap, subst, ◌∙◌, rules, arith}
+use Rattle.std.specs.Prelude.{nat_le}
 use Rattle.metric_laws.specs.Log.{Grew}
 use Rattle.metric_laws.specs.LogLaws.{Grew-nothing, Grew-then, Grew-same}
 use Rattle.answer_lists.specs.Order.{goes_before, placed}
 use Rattle.nn_query.specs.Items.{items_of}
 use Rattle.nn_query.specs.Least.{least_of}
-use Rattle.nn_query.specs.Queue.{key_at, before, weight_of, waiting}
+use Rattle.nn_query.specs.Queue.{key_at, before, waiting}
 use Rattle.nn_query.specs.Visits.{may_visit, CanVisit, Opens, reached}
 use Rattle.nn_query.proofs.Lists.{all-append, all-moved}
 use Rattle.nn_query.proofs.Looking.{first-none}

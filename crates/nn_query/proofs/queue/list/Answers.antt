@@ -1,6 +1,5 @@
 use Rattle.std.proofs.Common.{◌++◌, ◌∷◌, [], map, take, ap, sym, ◌∙◌}
 use Rattle.std.proofs.lemmas.List.{map-append}
-use Rattle.nn_query.specs.declared.queue.Waiting.{Waiting}
 use Rattle.nn_query.specs.Queue.{Candidate, waiting_for}
 use Rattle.nn_query.specs.Listed.{listed}
 use Rattle.nn_query.proofs.Candidates.{listed-none, listed-more}
