@@ -1,11 +1,12 @@
 //! Pivots and rows made of sample objects.
 ghost use Rattle.std.specs.Prelude.{◌≡◌, ◌≢◌, [], ◌∷◌, IsTrue, IfOk, All};
+ghost use Rattle.spb_defs.specs.Pivots.{cells_of};
 ghost use Rattle.pivot_map.specs.declared.row.Row.{Row};
 ghost use Rattle.pivot_map.specs.Rows.{ArePivots, AreRows, entries_of};
 
 use metric_laws::{Counted, Metric};
 use pivot_map::{Row, map_object};
-use spb_edge::Bytes;
+use spb_edge::{Bytes, Memory};
 use std::alloc::Global;
 use std::test::Fail;
 
@@ -66,13 +67,29 @@ pub fn rows_of<M: Metric>(
         if !is_new(&rows, *id) {
             return Err(Fail::new("two samples with one id"));
         }
-        rows.push(Row {
-            id: *id,
-            object: Bytes::of(alloc, object)?,
-            vect: map_object(&mut Counted::new(metric), pivots, object),
-        })?;
+        rows.push(row_of(alloc, metric, pivots, *id, object)?)?;
     }
     Ok(rows)
+}
+
+/// A row of an object that the metric admits.
+fn row_of<M: Metric>(
+    alloc: Global,
+    metric: M,
+    pivots: &[Bytes],
+    id: u32,
+    object: &[u8; 8],
+) -> Result<Row, Memory>
+    requires pivots { ArePivots (M.admitted metric) pivots.now }
+    requires object { M.admitted metric object.now }
+    ensures entry { IfOk result (λ row. (row.id ≡ id) × (row.object ≡ object.now)) }
+    ensures cells { IfOk result (λ row. row.vect ≡ cells_of (M.dist metric) pivots.now object.now) }
+{
+    Ok(Row {
+        id,
+        object: Bytes::of(alloc, object)?,
+        vect: map_object(&mut Counted::new(metric), pivots, object),
+    })
 }
 
 /// Whether no row has the id.
