@@ -1,11 +1,13 @@
-ghost use Rattle.std.specs.Prelude.{◌≡◌, ◌≤◌, ◌↔◌, ℕ, List, length, None, All, IsTrue};
+ghost use Rattle.std.specs.Prelude.{◌≡◌, ◌≤◌, ◌↔◌, ℕ, List, length, Some, None, All, IsTrue};
 ghost use Rattle.std.specs.List.{Contains};
 ghost use Rattle.spb_edge.specs.declared.reader.Line.{Line};
 ghost use Rattle.spb_edge.specs.Lines.{lines_of};
 ghost use Rattle.metrics_builtin.specs.declared.Space.{Space};
 ghost use Rattle.metrics_builtin.specs.Space.{fits, IsValid};
 ghost use Rattle.spb_defs.specs.declared.TheConstants.{LINE_LIMIT, PIVOT_LIMIT};
+ghost use Rattle.spb_defs.specs.declared.Asked.{Asked};
 ghost use Rattle.spb_defs.specs.declared.CurveKind.{CurveKind};
+ghost use Rattle.spb_defs.specs.Words.{asked_of, Spells};
 ghost use Rattle.spb_defs.specs.State.{State, IsState, closed, empty_in_memory, empty_in_file};
 ghost use Rattle.spb_defs.specs.Choice.{chosen_places};
 ghost use Rattle.spb_defs.specs.Farthest.{IsChoice};
@@ -55,4 +57,9 @@ pub fn pivots_are_farthest_first()
 pub fn reached_states()
     ensures changes { (s : State) (script : List ℕ) (t : State) → Contains (changes s script) t → IsReached s (lines_of LINE_LIMIT script) t }
     ensures all { (s : State) (script : List ℕ) (t : State) → s.samples ≡ None → IsReached s (lines_of LINE_LIMIT script) t → Contains (changes s script) t }
+{}
+
+/// The words of the program ask for what they spell, and for nothing else. The call does nothing.
+pub fn words_are_spelled()
+    ensures { (words : List (List ℕ)) (asked : Asked) → (asked_of words ≡ Some asked) ↔ Spells words asked }
 {}

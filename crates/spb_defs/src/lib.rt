@@ -10,9 +10,12 @@ mod rows;
 use answer_lists::{Ids, Pairs, Ranks};
 pub use laws::{
     limits, pivots_are_farthest_first, reached_states, refusals_change_nothing, states_are_kept,
+    words_are_spelled,
 };
 use metrics_builtin::Space;
-pub use rows::{worked_files, worked_kinds, worked_pivots, worked_rows, worked_samples};
+pub use rows::{
+    worked_files, worked_kinds, worked_pivots, worked_rows, worked_samples, worked_words,
+};
 use spb_edge::Bytes;
 
 /// The longest line, in bytes without its LF.
@@ -65,7 +68,10 @@ pub enum Asked {
     /// Checks a store in a file.
     Check,
     /// Makes a store in a file and runs a generated script on it, of so many objects (1 to 65536).
-    Trial { seed: u64, count: u32 },
+    Trial {
+        seed: u64,
+        count: u32,
+    },
 }
 
 /// A line that is a command. A collection `c` or `d` is 0 to 3.

@@ -1,8 +1,10 @@
 //! Scripts and what they are answered, which the definitions compute. The calls do nothing.
 
-ghost use Rattle.std.specs.Prelude.{◌≡◌, ℕ, [], ◌∷◌, ◌++◌, replicate, codes};
+ghost use Rattle.std.specs.Prelude.{◌≡◌, ℕ, [], ◌∷◌, ◌++◌, Some, None, replicate, codes};
 ghost use Rattle.spb_defs.specs.Play.{play};
-ghost use Rattle.metrics_builtin.specs.declared.Space.TheVariants.{LInf, Hamming, Sets};
+ghost use Rattle.metrics_builtin.specs.declared.Space.TheVariants.{L1, LInf, Hamming, Sets};
+ghost use Rattle.spb_defs.specs.declared.Asked.TheVariants.{Mem, Make, Run, Check, Trial};
+ghost use Rattle.spb_defs.specs.Words.{asked_of};
 ghost use Rattle.spb_defs.specs.declared.CurveKind.TheVariants.{Z, Hilbert};
 ghost use Rattle.spb_defs.specs.State.{empty_in_memory};
 ghost use Rattle.spb_defs.specs.Rows.{IsAnswered, AreAnswered, AreAnsweredWith, ClosesSampling, three_samples, thrice_ok, ended, plane, plane_in_file};
@@ -122,4 +124,28 @@ pub fn worked_kinds()
     ensures sets { IsAnswered (empty_in_memory (Sets 100 5) 0)
         (codes "add 0 1 1,2,3" ∷ codes "add 0 2 2,3,4" ∷ codes "near 0 1 2,3" ∷ codes "add 0 3 -" ∷ codes "get 0 3" ∷ codes "add 0 4 5,5" ∷ [])
         (codes "ok" ∷ codes "ok" ∷ codes "near 1 evals 2: 1@1" ∷ codes "ok" ∷ codes "object -" ∷ codes "bad object" ∷ []) }
+{}
+
+/// Words of the program, and what they ask for: the definitions compute it. The call does nothing.
+pub fn worked_words()
+    ensures mem { asked_of (codes "mem" ∷ codes "l1" ∷ codes "2" ∷ codes "255" ∷ []) ≡ Some (Mem (record { space = L1 2 255; pivots = 0 })) }
+    ensures pivots { asked_of (codes "mem" ∷ codes "hamming" ∷ codes "3" ∷ codes "8" ∷ []) ≡ Some (Mem (record { space = Hamming 3; pivots = 8 })) }
+    ensures nine { asked_of (codes "mem" ∷ codes "hamming" ∷ codes "3" ∷ codes "9" ∷ []) ≡ None }
+    ensures wide { asked_of (codes "mem" ∷ codes "l1" ∷ codes "31" ∷ codes "255" ∷ []) ≡ None }
+    ensures make { asked_of (codes "make" ∷ codes "a.spb" ∷ codes "z" ∷ codes "2" ∷ codes "65536" ∷ codes "l1" ∷ codes "2" ∷ codes "255" ∷ []) ≡ Some (Make Z 2 65536 (L1 2 255)) }
+    ensures hilbert { asked_of (codes "make" ∷ codes "h" ∷ codes "hilbert" ∷ codes "8" ∷ codes "1" ∷ codes "sets" ∷ codes "100" ∷ codes "5" ∷ []) ≡ Some (Make Hilbert 8 1 (Sets 100 5)) }
+    ensures no_pivots { asked_of (codes "make" ∷ codes "a.spb" ∷ codes "z" ∷ codes "0" ∷ codes "100" ∷ codes "l1" ∷ codes "2" ∷ codes "255" ∷ []) ≡ None }
+    ensures no_room { asked_of (codes "make" ∷ codes "a.spb" ∷ codes "z" ∷ codes "2" ∷ codes "0" ∷ codes "l1" ∷ codes "2" ∷ codes "255" ∷ []) ≡ None }
+    ensures too_large { asked_of (codes "make" ∷ codes "a.spb" ∷ codes "z" ∷ codes "2" ∷ codes "65537" ∷ codes "l1" ∷ codes "2" ∷ codes "255" ∷ []) ≡ None }
+    ensures one_more { asked_of (codes "make" ∷ codes "a.spb" ∷ codes "z" ∷ codes "2" ∷ codes "100" ∷ codes "l1" ∷ codes "2" ∷ codes "255" ∷ codes "2" ∷ []) ≡ None }
+    ensures run { asked_of (codes "run" ∷ codes "a.spb" ∷ []) ≡ Some Run }
+    ensures check { asked_of (codes "check" ∷ codes "a.spb" ∷ []) ≡ Some Check }
+    ensures dash { asked_of (codes "run" ∷ codes "-a" ∷ []) ≡ None }
+    ensures nameless { asked_of (codes "run" ∷ [] ∷ []) ≡ None }
+    ensures fileless { asked_of (codes "run" ∷ []) ≡ None }
+    ensures trial { asked_of (codes "trial" ∷ codes "t" ∷ codes "18446744073709551615" ∷ codes "65536" ∷ []) ≡ Some (Trial 18446744073709551615 65536) }
+    ensures seed { asked_of (codes "trial" ∷ codes "t" ∷ codes "18446744073709551616" ∷ codes "1" ∷ []) ≡ None }
+    ensures none { asked_of (codes "trial" ∷ codes "t" ∷ codes "0" ∷ codes "0" ∷ []) ≡ None }
+    ensures help { asked_of (codes "--help" ∷ []) ≡ None }
+    ensures wordless { asked_of [] ≡ None }
 {}
