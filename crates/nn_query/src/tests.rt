@@ -1,65 +1,12 @@
 //! The nearest, worked by hand.
-ghost use Rattle.std.specs.Prelude.{◌≡◌, ◌≢◌, ◌≤◌, IsTrue, IfOk, All, length};
-ghost use Rattle.pivot_map.specs.declared.row.Row.{Row};
-ghost use Rattle.pivot_map.specs.Rows.{ArePivots, AreRows};
+ghost use Rattle.std.specs.Prelude.{◌≤◌};
 
 use super::*;
 use metric_laws::{Counted, Metric, Traced};
 use metrics_builtin::{Hamming, L1, LInf, SetDiff};
-use pivot_map::{Row, map_object};
-use spb_edge::{Bytes, Memory};
+use row_samples::{pair, pivots_of, rows_of};
 use std::alloc::Global;
 use std::test::Fail;
-
-// the object of two numbers below 256
-fn pair(x: u8, y: u8) -> [u8; 8] {
-    [0, 0, 0, x, 0, 0, 0, y]
-}
-
-// the pivots, where the metric admits them
-fn pivots_of<M: Metric>(alloc: Global, metric: M, objects: &[[u8; 8]]) -> Result<Vec<Bytes>, Memory>
-    ensures { IfOk result (λ pivots. ArePivots (M.admitted metric) pivots.items) }
-{
-    let mut pivots = Vec::new(alloc);
-    for object in objects {
-        if pivots.len() == 8 || !metric.admits(object) {
-            return Err(Memory);
-        }
-        pivots.push(Bytes::of(alloc, object)?)?;
-    }
-    Ok(pivots)
-}
-
-// whether no row has the id
-fn is_new(rows: &[Row], id: u32) -> bool
-    ensures { IsTrue result → All (λ (row : Row). row.id ≢ id) rows.now }
-{
-    rows.iter().all(|row| row.id != id)
-}
-
-// the rows of these objects under these ids, where the metric admits them and no two ids are equal
-fn rows_of<M: Metric>(
-    alloc: Global,
-    metric: M,
-    pivots: &[Bytes],
-    entries: &[(u32, [u8; 8])],
-) -> Result<Vec<Row>, Memory>
-    requires { ArePivots (M.admitted metric) pivots.now }
-    ensures { IfOk result (λ rows. AreRows (M.admitted metric) (M.dist metric) pivots.now rows.items) }
-{
-    let mut rows = Vec::new(alloc);
-    for (id, object) in entries {
-        if rows.len() == 1 << 31 || !metric.admits(object) || !is_new(&rows, *id) {
-            return Err(Memory);
-        }
-        rows.push(Row {
-            id: *id,
-            object: Bytes::of(alloc, object)?,
-            vect: map_object(&mut Counted::new(metric), pivots, object),
-        })?;
-    }
-    Ok(rows)
-}
 
 fn nearest<M: Metric>(
     alloc: Global,
@@ -68,15 +15,16 @@ fn nearest<M: Metric>(
     entries: &[(u32, [u8; 8])],
     q: &[u8; 8],
     k: u32,
-) -> Result<NearAnswer, Memory>
+) -> Result<NearAnswer, Fail>
     requires { 1 ≤ k }
 {
     let pivots = pivots_of(alloc, metric, pivots)?;
     let rows = rows_of(alloc, metric, &pivots, entries)?;
     if !metric.admits(q) {
-        return Err(Memory);
+        return Err(Fail::new("the metric doesn't admit the query"));
     }
-    near_rows(alloc, &rows, &pivots, &mut Counted::new(metric), q, k)
+    let mut ruler = Counted::new(metric);
+    Ok(near_rows(alloc, &rows, &pivots, &mut ruler, q, k)?)
 }
 
 const PLANE: L1 = L1 { dim: 2, most: 255 };
@@ -128,7 +76,7 @@ fn the_pivots_are_asked_first(rt: HostRuntime) -> Result<(), Fail> {
     let mut ruler = Traced::new(rt.alloc(), PLANE);
     let q = pair(2, 0);
     if !PLANE.admits(&q) {
-        return Err(Memory.into());
+        return Err(Fail::new("the metric doesn't admit the query"));
     }
     near_rows(rt.alloc(), &rows, &pivots, &mut ruler, &q, 1)?;
     let measured = [pair(0, 0), pair(0, 2), pair(6, 0)];

@@ -388,6 +388,15 @@ impl Store {
     {
         let left = self.tables[c as usize].rows();
         let right = self.tables[d as usize].rows();
-        join_of(alloc, left, right, self.pivots.as_slice(), ruler, c, d, radius)
+        join_of(
+            alloc,
+            left,
+            right,
+            self.pivots.as_slice(),
+            ruler,
+            c,
+            d,
+            radius,
+        )
     }
 }

@@ -38,12 +38,7 @@ pub(crate) trait Turns {
     ghost leaves: { Self → Self → State → Type 0 };
 
     /// The reply to the line, and the session after it. The queries are measured by the ruler.
-    fn turn<R: Ruler>(
-        &mut self,
-        alloc: Global,
-        ruler: &mut R,
-        line: &Line,
-    ) -> Result<Reply, Ending>
+    fn turn<R: Ruler>(&mut self, alloc: Global, ruler: &mut R, line: &Line) -> Result<Reply, Ending>
         requires line { line.now ≡ Line.End → ⊥ }
         requires ruler { IsMetricOf (R.admitted (R.kind ruler.old)) (R.dist (R.kind ruler.old)) (space self.old) }
         requires room { R.count ruler.old < 2 ^ 63 }

@@ -11,9 +11,24 @@ fn an_ended_session_answers_no_more(rt: HostRuntime) -> Result<(), Fail> {
     let metric = L1 { dim: 2, most: 255 };
     let mut session = MemSession::new(alloc, Space::L1 { dim: 2, most: 255 }, metric, 0)?;
     let mut ruler = Counted::new(metric);
-    assert!(rt; matches!(session.turn(alloc, &mut ruler, &Line::Long), Ok(Reply::Long)));
+    assert!(rt;
+        matches!(
+            session.turn(alloc, &mut ruler, &Line::Long),
+            Ok(Reply::Long)
+        )
+    );
     session.ended = true;
-    assert!(rt; matches!(session.turn(alloc, &mut ruler, &Line::Long), Err(Ending::Spent)));
-    assert!(rt; matches!(session.turn(alloc, &mut ruler, &Line::Long), Err(Ending::Spent)));
+    assert!(rt;
+        matches!(
+            session.turn(alloc, &mut ruler, &Line::Long),
+            Err(Ending::Spent)
+        )
+    );
+    assert!(rt;
+        matches!(
+            session.turn(alloc, &mut ruler, &Line::Long),
+            Err(Ending::Spent)
+        )
+    );
     Ok(())
 }

@@ -47,11 +47,11 @@ loop-line-preserved-in-Ok-put_all g c =
         running = c.in-Ok-take_turn.ensures.open;
         disk = let before = kept.disk in let turn = c.take_turn.ensures.faults in omega (arith, before, turn);
         serving = Serving-line g.S.Source g.K.Sink c.args.reader.now c.args.output.now c.loop-line.reader c.loop-line.output written kept.serving c.take_line.new.self consumed.0 consumed.1
-          c.put_all.new.sink c.as_slice.result.now c.in-Ok-take_line.ensures.open read.0 c.in-Ok-put_all.ensures.puts c.in-Ok-put_all.ensures.fault;
+            c.put_all.new.sink c.as_slice.result.now c.in-Ok-take_line.ensures.open read.0 c.in-Ok-put_all.ensures.puts c.in-Ok-put_all.ensures.fault;
         goes_on = λ first holds.
             let on = kept.goes_on first holds in
             let said = c.as_slice.ensures ∙ c.in-Ok-take_turn.ensures.text on.state on.held
-                ∙ ap (λ space. reply_text space (reply on.state c.in-Ok-take_line.line)) (sym c.requires.space ∙ sym kept.space ∙ sym (g.met.T.Turns.space_held c.loop-line.session on.state on.held)) in
+            ∙ ap (λ space. reply_text space (reply on.state c.in-Ok-take_line.line)) (sym c.requires.space ∙ sym kept.space ∙ sym (g.met.T.Turns.space_held c.loop-line.session on.state on.held)) in
             GoesOn-line turns.holds turns.leaves g.met.T.Turns.leaves_joined first c.args.session.now c.args.reader.now c.loop-line.session c.loop-line.reader written on
             c.take_turn.new.session c.take_line.new.self c.in-Ok-take_line.line c.as_slice.result.now consumed.0 not_end c.in-Ok-take_line.ensures.line consumed.1 c.in-Ok-take_line.ensures.after_end how
             said (c.in-Ok-take_turn.ensures.next on.state on.held) (c.take_turn.ensures.any_moment on.state on.held);
@@ -74,11 +74,11 @@ loop-line-preserved g c =
         running = c.in-Ok-take_turn.ensures.open;
         disk = let before = kept.disk in let turn = c.take_turn.ensures.faults in omega (arith, before, turn);
         serving = Serving-line g.S.Source g.K.Sink c.args.reader.now c.args.output.now c.loop-line.reader c.loop-line.output written kept.serving c.take_line.new.self consumed.0 consumed.1
-          c.put_all.new.sink c.as_slice.result.now c.in-Ok-take_line.ensures.open read.0 c.in-Ok-put_all.ensures.puts c.in-Ok-put_all.ensures.fault;
+            c.put_all.new.sink c.as_slice.result.now c.in-Ok-take_line.ensures.open read.0 c.in-Ok-put_all.ensures.puts c.in-Ok-put_all.ensures.fault;
         goes_on = λ first holds.
             let on = kept.goes_on first holds in
             let said = c.as_slice.ensures ∙ c.in-Ok-take_turn.ensures.text on.state on.held
-                ∙ ap (λ space. reply_text space (reply on.state c.in-Ok-take_line.line)) (sym c.requires.space ∙ sym kept.space ∙ sym (g.met.T.Turns.space_held c.loop-line.session on.state on.held)) in
+            ∙ ap (λ space. reply_text space (reply on.state c.in-Ok-take_line.line)) (sym c.requires.space ∙ sym kept.space ∙ sym (g.met.T.Turns.space_held c.loop-line.session on.state on.held)) in
             GoesOn-line turns.holds turns.leaves g.met.T.Turns.leaves_joined first c.args.session.now c.args.reader.now c.loop-line.session c.loop-line.reader written on
             c.take_turn.new.session c.take_line.new.self c.in-Ok-take_line.line c.as_slice.result.now consumed.0 not_end c.in-Ok-take_line.ensures.line consumed.1 c.in-Ok-take_line.ensures.after_end how
             said (c.in-Ok-take_turn.ensures.next on.state on.held) (c.take_turn.ensures.any_moment on.state on.held);
@@ -173,7 +173,7 @@ returns-in_default-put_all-clause-text g c = λ first holds.
     let on = kept.goes_on first holds in
     let not_end : c.in-Ok-take_line.line ≡ End → ⊥ = λ e. false≢true (sym c.if-is_end.false ∙ c.is_end.ensures.1 e) in
     let said = c.as_slice.ensures ∙ c.in-Ok-take_turn.ensures.text on.state on.held
-        ∙ ap (λ space. reply_text space (reply on.state c.in-Ok-take_line.line)) (sym c.requires.space ∙ sym kept.space ∙ sym (g.met.T.Turns.space_held c.loop-line.session on.state on.held)) in
+    ∙ ap (λ space. reply_text space (reply on.state c.in-Ok-take_line.line)) (sym c.requires.space ∙ sym kept.space ∙ sym (g.met.T.Turns.space_held c.loop-line.session on.state on.held)) in
     let puts = c.in_default-put_all.ensures.puts in
     front_of_reply first c.args.reader.now c.loop-line.reader on.state written on.plays c.take_line.new.self c.in-Ok-take_line.line c.as_slice.result.now not_end c.in-Ok-take_line.ensures.line said
     (g.K.Sink.taken c.args.output.now) (g.K.Sink.taken c.loop-line.output) (g.K.Sink.taken c.put_all.new.sink) puts.0 kept.serving.wrote puts.2
