@@ -19,7 +19,7 @@ use std::alloc::Global;
 /// It needs at most 2^31 admitted samples and `n` of at most as many; where `n` is 0 there may be none.
 /// It measures each chosen object but the last with all that aren't chosen yet, once, so it takes time in
 /// proportion to `n` times the samples, and memory for one number for each sample and one for each place.
-/// Want of memory is its only error.
+/// Want of memory is its only error; the ruler may have measured by then.
 pub fn choose<R: Ruler>(
     alloc: Global,
     ruler: &mut R,
@@ -36,6 +36,7 @@ pub fn choose<R: Ruler>(
     ensures distinct { IfOk result (λ places. IsDistinct nat_eq places) }
     ensures farthest { IfOk result (λ places. IsFarthestFirst (R.dist (R.kind ruler.old)) sample.now places) }
     ensures count { OnOk result (R.count ruler.new ≡ R.count ruler.old + choice_evals (length sample.now) n) }
+    ensures rises { R.count ruler.old ≤ R.count ruler.new }
     ensures log { OnOk result (Grew (R.log ruler.old) (R.log ruler.new) (choice_visits (R.dist (R.kind ruler.old)) sample.now n)) }
     ensures kind { R.kind ruler.new ≡ R.kind ruler.old }
 {
@@ -66,6 +67,7 @@ fn choose_by_worth<R: Ruler>(
     ensures places { IfOk result (λ places. places ≡ chosen_places (R.dist (R.kind ruler.old)) sample.now n) }
     ensures distinct { IfOk result (λ places. IsDistinct nat_eq places) }
     ensures count { OnOk result (R.count ruler.new ≡ R.count ruler.old + choice_evals (length sample.now) n) }
+    ensures rises { R.count ruler.old ≤ R.count ruler.new }
     ensures log { OnOk result (Grew (R.log ruler.old) (R.log ruler.new) (choice_visits (R.dist (R.kind ruler.old)) sample.now n)) }
     ensures kind { R.kind ruler.new ≡ R.kind ruler.old }
 {
