@@ -66,7 +66,7 @@ def play(program, words, objects, questions):
         head, _, items = reply.partition(":")
         shown = [re.sub(r"\d+(?=@|-|$)", lambda id: names[int(id[0])], item, count=1) if "-" not in item
                  else " - ".join(names[int(id)] for id in item.split("-")) for item in items.split()[:6]]
-        print(f"{question[:70]}\n    {head}: {', '.join(shown)}")
+        print(f"{question[:70]}\n    {head}{': ' if shown else ''}{', '.join(shown)}")
     print()
 
 
