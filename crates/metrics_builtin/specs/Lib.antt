@@ -9,4 +9,4 @@ pub mod SpaceLaws
 pub mod Strings
 pub mod VectorLaws
 pub mod Vectors
-pub mod WidthLaws
+pub mod BitLaws

@@ -35,16 +35,16 @@ top (LInf dim most) = most
 top (Hamming len) = len
 top (Sets universe most) = min universe (2 * most)
 
--- `width` is the least number of bits, but at least one, that hold every number up to n
-pub record IsWidth (n width : ℕ) : Type 0 where
-  pub some : 1 ≤ width
-  pub enough : n < 2 ^ width
-  pub least : (other : ℕ) → 1 ≤ other → n < 2 ^ other → width ≤ other
+-- `count` is the least number of bits, but at least one, that hold every number up to n
+pub record IsBitCount (n count : ℕ) : Type 0 where
+  pub some : 1 ≤ count
+  pub enough : n < 2 ^ count
+  pub least : (other : ℕ) → 1 ≤ other → n < 2 ^ other → count ≤ other
 
 -- that number for what is in 32 bits: one more than how many powers of two from 2 on are not past it
-unfoldable pub width_of : ℕ → ℕ
-width_of n = 1 + count_by (λ b. nat_le (2 ^ b) n) (range_with_len 1 31)
+unfoldable pub bit_count : ℕ → ℕ
+bit_count n = 1 + count_by (λ b. nat_le (2 ^ b) n) (range_with_len 1 31)
 
 -- the number of bits that hold every distance
 abbrev pub bits : Space → ℕ
-bits space = width_of (top space)
+bits space = bit_count (top space)

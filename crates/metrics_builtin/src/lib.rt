@@ -2,7 +2,7 @@
 #![tactic(auto)]
 
 ghost use Rattle.std.specs.Prelude.{◌≡◌, IsTrue};
-ghost use Rattle.metrics_builtin.specs.Space.{fits, top, bits, IsWidth};
+ghost use Rattle.metrics_builtin.specs.Space.{fits, top, bits, IsBitCount};
 
 pub mod sets;
 pub mod strings;
@@ -63,7 +63,7 @@ impl Space {
     pub fn bits(&self) -> u8
         requires { IsTrue (fits self.now) }
         ensures value { result ≡ bits self.now }
-        ensures least { IsWidth (top self.now) result }
+        ensures least { IsBitCount (top self.now) result }
     {
         self.top().ilog2() as u8 + 1
     }

@@ -17,7 +17,7 @@ use Rattle.pivot_map.specs.declared.row.Row as vector_row
 use Rattle.pivot_map.specs.Rows.{entry_of, entries_of}
 use Rattle.pivot_map.specs.Bounds.{BoundsHold}
 use Rattle.nn_query.specs.declared.queue.Waiting.{Waiting}
-use Rattle.nn_query.specs.Listed.{candidate_for, listed, object_in, no_nodes}
+use Rattle.nn_query.specs.Listed.{candidate_for, listed, object_in, empty_nodes}
 use Rattle.nn_query.specs.Queue.{Candidate, waiting_for, key_of, comes_first, under, weight_of, waiting}
 use Rattle.nn_query.specs.Visits.{entry_at, entries_at, CanVisit, IsLeast, AreBounds}
 use Rattle.nn_query.proofs.Lists.{all-map, all-moved}
@@ -98,36 +98,36 @@ apart dist pivots query rows ids i j d less below same =
 
 -- ---- rows that wait
 
-under-rows : (cs : List Candidate) → flat_map (under no_nodes) (map waiting_for cs) ≡ cs
+under-rows : (cs : List Candidate) → flat_map (under empty_nodes) (map waiting_for cs) ≡ cs
 under-rows [] = refl
-under-rows (c ∷ cs) = flat_map-cons (under no_nodes) (waiting_for c) (map waiting_for cs) ∙ ap (λ ds. c ∷ ds) (under-rows cs)
+under-rows (c ∷ cs) = flat_map-cons (under empty_nodes) (waiting_for c) (map waiting_for cs) ∙ ap (λ ds. c ∷ ds) (under-rows cs)
 
-weight-rows : (cs : List Candidate) → sum_by (weight_of no_nodes) (map waiting_for cs) ≡ length cs
+weight-rows : (cs : List Candidate) → sum_by (weight_of empty_nodes) (map waiting_for cs) ≡ length cs
 weight-rows [] = refl
-weight-rows (c ∷ cs) = let a = sum_by-cons (weight_of no_nodes) (waiting_for c) (map waiting_for cs) in let b = weight-rows cs in omega (arith, a, b)
+weight-rows (c ∷ cs) = let a = sum_by-cons (weight_of empty_nodes) (waiting_for c) (map waiting_for cs) in let b = weight-rows cs in omega (arith, a, b)
 
 module _ (asked : List ℕ) (rows : List vector_row.Row) (items : List Waiting) (moved : IsPermutation (map waiting_for (listed asked 0 rows)) items) where
   -- the candidates are under them
-  under-items : IsPermutation (listed asked 0 rows) (flat_map (under no_nodes) items)
-  under-items = subst (λ cs. IsPermutation cs (flat_map (under no_nodes) items)) (under-rows (listed asked 0 rows)) (permutation-flat_map (under no_nodes) (map waiting_for (listed asked 0 rows)) items moved)
+  under-items : IsPermutation (listed asked 0 rows) (flat_map (under empty_nodes) items)
+  under-items = subst (λ cs. IsPermutation cs (flat_map (under empty_nodes) items)) (under-rows (listed asked 0 rows)) (permutation-flat_map (under empty_nodes) (map waiting_for (listed asked 0 rows)) items moved)
 
-  pub in-order : IsPermutation (listed asked 0 rows) (waiting no_nodes items)
-  in-order = IsPermutation-trans _ _ _ under-items (permutation-arranged comes_first (flat_map (under no_nodes) items))
+  pub in-order : IsPermutation (listed asked 0 rows) (waiting empty_nodes items)
+  in-order = IsPermutation-trans _ _ _ under-items (permutation-arranged comes_first (flat_map (under empty_nodes) items))
 
-  pub weight-is : sum_by (weight_of no_nodes) items ≡ length rows
-  weight-is = sum_by-IsPermutation (weight_of no_nodes) _ items moved ∙ weight-rows (listed asked 0 rows) ∙ length-listed asked 0 rows
+  pub weight-is : sum_by (weight_of empty_nodes) items ≡ length rows
+  weight-is = sum_by-IsPermutation (weight_of empty_nodes) _ items moved ∙ weight-rows (listed asked 0 rows) ∙ length-listed asked 0 rows
 
   -- each has its row
-  pub have-rows : AllByRecursion (CanVisit (λ level place. ⊥) (λ place. place < length rows)) items
-  have-rows = all-moved _ _ items moved (all-map (CanVisit (λ level place. ⊥) (λ place. place < length rows)) waiting_for (listed asked 0 rows) (each-listed (λ (c : Candidate). c.place < length rows) asked rows (λ k row below at. below)))
+  pub have-rows : AllByRecursion (CanVisit (λ level place. Unit {0}) (λ place. place < length rows)) items
+  have-rows = all-moved _ _ items moved (all-map (CanVisit (λ level place. Unit {0}) (λ place. place < length rows)) waiting_for (listed asked 0 rows) (each-listed (λ (c : Candidate). c.place < length rows) asked rows (λ k row below at. below)))
 
-  are-least : (cs : List Candidate) → AllByRecursion (IsLeast no_nodes (λ level place. Unit {0})) (map waiting_for cs)
+  are-least : (cs : List Candidate) → AllByRecursion (IsLeast empty_nodes (λ level place. Unit {0})) (map waiting_for cs)
   are-least [] = tt
   are-least (c ∷ cs) = (record { objects = (omega arith, tt); bounds = tt; sound = tt }, are-least cs)
 
   -- no bound is too great
   pub are-bounds : (dist : List ℕ → List ℕ → ℕ) (query : List ℕ) → ((k : ℕ) (row : vector_row.Row) → k < length rows → row ≡ get_or rows k row → lower_bound asked row.vect ≤ dist query row.object)
-      → AreBounds dist (object_in rows) query no_nodes (λ level place. Unit {0}) items
+      → AreBounds dist (object_in rows) query empty_nodes (λ level place. Unit {0}) items
   are-bounds dist query each = record {
     lower =
         all-moved (λ (c : Candidate). goes_before (dist query (object_in rows c.place), c.id) (key_of c) ≡ false) _ _ under-items

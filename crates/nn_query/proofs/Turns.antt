@@ -98,9 +98,9 @@ pub record Looked (dist : List ℕ → List ℕ → ℕ) (object_at : ℕ → Li
 
 module _ (dist : List ℕ → List ℕ → ℕ) (object_at : ℕ → List ℕ) (query : List ℕ) (nodes : Nodes) (is_sound : ℕ → ℕ → Type 0) (k : ℕ) where
   -- nothing was looked at yet
-  pub begun : (items : List Waiting) (least : List Pair) (opened : ℕ) → AreBounds dist object_at query nodes is_sound items → least ≡ take k (arranged goes_before [])
-      → Looked dist object_at query nodes is_sound k (waiting nodes items) 0 least items opened (opened + reached dist object_at query nodes k items)
-  begun items least opened bounds is =
+  pub begun : (items : List Waiting) (least : List Pair) → AreBounds dist object_at query nodes is_sound items → least ≡ take k (arranged goes_before [])
+      → Looked dist object_at query nodes is_sound k (waiting nodes items) 0 least items 0 (reached dist object_at query nodes k items)
+  begun items least bounds is =
       let none : items ++ [] ≡ items = append-nil items in record {
         within = omega arith;
         first = is;
@@ -109,7 +109,9 @@ module _ (dist : List ℕ → List ℕ → ℕ) (object_at : ℕ → List ℕ) (
         left = ap (waiting nodes) (sym none);
         bounded = subst (AllByRecursion (IsLeast nodes is_sound)) (sym none) bounds.least;
         shut = tt;
-        counted = ap (λ xs. opened + count_by (λ b. nat_lt (before (b, 0) (ranks_at dist object_at query (waiting nodes items))) k) (flat_map (bounds_under nodes) xs)) none;
+        counted =
+            (let whole = ap (λ xs. count_by (λ b. nat_lt (before (b, 0) (ranks_at dist object_at query (waiting nodes items))) k) (flat_map (bounds_under nodes) xs)) none in
+            omega (arith, whole));
       }
 
   -- no rank goes before the key of its candidate

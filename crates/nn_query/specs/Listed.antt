@@ -18,6 +18,6 @@ listed asked place (row ∷ rows) = candidate_for asked place row ∷ listed ask
 abbrev pub object_in : List vector_row.Row → ℕ → List ℕ
 object_in rows place = (slice_index_or rows place (record { id = 0; object = []; vect = [] })).object
 
--- rows have no nodes over them
-abbrev pub no_nodes : Nodes
-no_nodes = record { objects = λ level place. []; bounds = λ level place. []; weight = λ level. 0 }
+-- nothing stands in the nodes over rows
+abbrev pub empty_nodes : Nodes
+empty_nodes = record { objects = λ level place. []; bounds = λ level place. []; weight = λ level. 1 }

@@ -40,9 +40,6 @@ pub(crate) trait Hierarchy {
     // no bound in the node of a level at a place is too great for what is under it
     ghost is_sound: { Content → ℕ → ℕ → Type 0 };
 
-    // how many nodes were opened
-    ghost opened: { Self → ℕ };
-
     /// Measures the query with the object at the place.
     fn measure<R: Ruler>(&mut self, place: u32, ruler: &mut R, q: &[u8]) -> Result<u32, Self::Error>
         requires place { can_measure (content self.old) place }
@@ -50,7 +47,6 @@ pub(crate) trait Hierarchy {
         requires query { R.admitted (R.kind ruler.old) q.now }
         requires room { R.count ruler.old < 2 ^ 64 - 1 }
         ensures kept { content self.new ≡ content self.old }
-        ensures opened { opened self.new ≡ opened self.old }
         ensures distance { IfOk result (λ distance. distance ≡ R.dist (R.kind ruler.old) q.now (object_at (content self.old) place)) }
         ensures kind { R.kind ruler.new ≡ R.kind ruler.old }
         ensures rises { R.count ruler.old ≤ R.count ruler.new }
@@ -68,7 +64,6 @@ pub(crate) trait Hierarchy {
     ) -> Result<(), Self::Error>
         requires node { can_open (content self.old) level place }
         ensures kept { content self.new ≡ content self.old }
-        ensures opened { OnOk result (opened self.new ≡ opened self.old + 1) }
         ensures rows { OnOk result (Opens (nodes (content self.old)) (is_sound (content self.old))
             (CanVisit (can_open (content self.old)) (can_measure (content self.old)))
             best.now.most (least_of best.now) level place (items_of queue.old) (items_of queue.new)) };

@@ -49,59 +49,73 @@ pub fn near_rows<R: Ruler>(
     let asked = map_object(ruler, pivots, q);
     let queue = Queue::of(alloc, rows, &asked)?;
     let mut best = Best::new(alloc, k);
-    let measured = visit_in_order(&mut Rows { rows }, queue, ruler, q, &mut best)?;
+    let seen = visit_in_order(&mut Rows { rows }, queue, ruler, q, &mut best)?;
     Ok(NearAnswer {
         rows: best.into_ranks(),
-        evals: pivots.len() as u64 + measured,
+        evals: pivots.len() as u64 + seen.measured,
     })
+}
+
+/// What a search looked at.
+#[derive(Drop)]
+pub(crate) struct VisitCount {
+    /// How many objects were measured.
+    measured: u64,
+    /// How many nodes were opened.
+    opened: u64,
 }
 
 /// Looks at what waits in its order, nodes before objects of the same bound, up to the first that the best
 /// shut out: it opens nodes into the queue, and measures objects and puts their ranks among the best. It
-/// answers how many it measured. Its clauses say what it found if no bound is too great.
+/// counts what it looked at. Its clauses say what it found if no bound is too great.
 fn visit_in_order<H: Hierarchy, R: Ruler>(
     held: &mut H,
     mut queue: Queue,
     ruler: &mut R,
     q: &[u8],
     best: &mut Best,
-) -> Result<u64, H::Error>
+) -> Result<VisitCount, H::Error>
     requires query { R.admitted (R.kind ruler.old) q.now }
     requires items { AllByRecursion (CanVisit (H.can_open (H.content held.old)) (H.can_measure (H.content held.old))) (items_of queue) }
     requires objects { H.suits (H.content held.old) (R.admitted (R.kind ruler.old)) }
     requires few { sum_by (weight_of (H.nodes (H.content held.old))) (items_of queue) ≤ 2 ^ 31 }
     requires room { R.count ruler.old < 2 ^ 63 + 8 }
     requires none { least_of best.old ≡ [] }
-    ensures visited { IfOk result (λ n.
+    ensures visited { IfOk result (λ seen.
         AreBounds (R.dist (R.kind ruler.old)) (H.object_at (H.content held.old)) q.now (H.nodes (H.content held.old)) (H.is_sound (H.content held.old)) (items_of queue)
-        → Visited (R.dist (R.kind ruler.old)) (H.object_at (H.content held.old)) q.now (waiting (H.nodes (H.content held.old)) (items_of queue)) best.old.most n (least_of best.new)) }
-    ensures opened { OnOk result (
+        → Visited (R.dist (R.kind ruler.old)) (H.object_at (H.content held.old)) q.now (waiting (H.nodes (H.content held.old)) (items_of queue)) best.old.most seen.measured (least_of best.new)) }
+    ensures opened { IfOk result (λ seen.
         AreBounds (R.dist (R.kind ruler.old)) (H.object_at (H.content held.old)) q.now (H.nodes (H.content held.old)) (H.is_sound (H.content held.old)) (items_of queue)
-        → H.opened held.new ≡ H.opened held.old
-        + reached (R.dist (R.kind ruler.old)) (H.object_at (H.content held.old)) q.now (H.nodes (H.content held.old)) best.old.most (items_of queue)) }
-    ensures log { IfOk result (λ n.
+        → seen.opened ≡ reached (R.dist (R.kind ruler.old)) (H.object_at (H.content held.old)) q.now (H.nodes (H.content held.old)) best.old.most (items_of queue)) }
+    ensures log { IfOk result (λ seen.
         AreBounds (R.dist (R.kind ruler.old)) (H.object_at (H.content held.old)) q.now (H.nodes (H.content held.old)) (H.is_sound (H.content held.old)) (items_of queue)
         → Grew (R.log ruler.old) (R.log ruler.new)
-        (each_with q.now (objects_at (H.object_at (H.content held.old)) (take n (waiting (H.nodes (H.content held.old)) (items_of queue)))))) }
-    ensures few { IfOk result (λ n. n ≤ sum_by (weight_of (H.nodes (H.content held.old))) (items_of queue)) }
-    ensures count { IfOk result (λ n. R.count ruler.new ≡ R.count ruler.old + n) }
+        (each_with q.now (objects_at (H.object_at (H.content held.old)) (take seen.measured (waiting (H.nodes (H.content held.old)) (items_of queue)))))) }
+    ensures few { IfOk result (λ seen. seen.measured + seen.opened ≤ sum_by (weight_of (H.nodes (H.content held.old))) (items_of queue)) }
+    ensures count { IfOk result (λ seen. R.count ruler.new ≡ R.count ruler.old + seen.measured) }
     ensures rises { R.count ruler.old ≤ R.count ruler.new }
     ensures kind { R.kind ruler.new ≡ R.kind ruler.old }
     ensures kept { H.content held.new ≡ H.content held.old }
 {
-    let mut measured = 0;
+    let mut seen = VisitCount {
+        measured: 0,
+        opened: 0,
+    };
     while let Some(first) = queue.next() {
         if best.shuts_out(first.key()) {
-            return Ok(measured);
+            return Ok(seen);
         }
         match first.kind {
-            Kind::Node { level } => held.open(level, first.place, best, &mut queue)?,
+            Kind::Node { level } => {
+                held.open(level, first.place, best, &mut queue)?;
+                seen.opened += 1;
+            }
             Kind::Object { id } => {
                 let distance = held.measure(first.place, ruler, q)?;
-                measured += 1;
+                seen.measured += 1;
                 best.put((distance, id))?;
             }
         }
     }
-    Ok(measured)
+    Ok(seen)
 }

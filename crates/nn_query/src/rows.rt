@@ -1,7 +1,7 @@
-//! Rows, with no nodes over them.
+//! Rows, with nothing in a node over them.
 ghost use Rattle.std.specs.Prelude.{◌<◌, List, length, All};
 ghost use Rattle.pivot_map.specs.declared.row.Row as vector_row;
-ghost use Rattle.nn_query.specs.Listed.{object_in, no_nodes};
+ghost use Rattle.nn_query.specs.Listed.{object_in, empty_nodes};
 
 use crate::best::Best;
 use crate::hierarchy::Hierarchy;
@@ -10,7 +10,7 @@ use metric_laws::Ruler;
 use pivot_map::Row;
 use spb_edge::Memory;
 
-/// The objects of rows: each stands at the place of its row.
+/// The objects of rows: each stands at the place of its row. Nodes may be opened, but none holds anything.
 #[derive(Clone, Copy)]
 pub(crate) struct Rows<'a> {
     pub(crate) rows: &'a [Row],
@@ -23,11 +23,11 @@ impl<'a> Hierarchy for Rows<'a> {
 
     ghost content = { λ s. s.rows.now };
 
-    ghost nodes = { λ rows. no_nodes };
+    ghost nodes = { λ rows. empty_nodes };
 
     ghost object_at = { object_in };
 
-    ghost can_open = { λ rows level place. ⊥ };
+    ghost can_open = { λ rows level place. Unit {0} };
 
     ghost can_measure = { λ rows place. place < length rows };
 
@@ -35,14 +35,12 @@ impl<'a> Hierarchy for Rows<'a> {
 
     ghost is_sound = { λ rows level place. Unit {0} };
 
-    ghost opened = { λ s. 0 };
-
     fn measure<R: Ruler>(&mut self, place: u32, ruler: &mut R, q: &[u8]) -> Result<u32, Memory> {
         let rows = self.rows;
         Ok(ruler.measure(q, rows[place as usize].object.as_slice()))
     }
 
-    /// It is never called, since there are no nodes.
+    /// Nothing stands in it.
     fn open(
         &mut self,
         _level: u8,

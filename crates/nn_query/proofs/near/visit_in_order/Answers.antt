@@ -1,4 +1,4 @@
-use Rattle.std.proofs.Common.{◌≡◌, ◌+◌, true, false, [], ◌∷◌, ◌++◌, take, refl, sym, ap, subst, ◌∙◌, rules, arith}
+use Rattle.std.proofs.Common.{◌≡◌, true, false, [], ◌∷◌, ◌++◌, take, refl, sym, ap, subst, ◌∙◌, rules, arith}
 use Rattle.std.specs.Prelude.{nat_le}
 use Rattle.metric_laws.specs.Log.{Grew}
 use Rattle.metric_laws.specs.LogLaws.{Grew-nothing, Grew-then, Grew-same}
@@ -9,7 +9,7 @@ use Rattle.nn_query.specs.Queue.{key_at, before, waiting}
 use Rattle.nn_query.specs.Visits.{may_visit, CanVisit, Opens, reached}
 use Rattle.nn_query.proofs.Lists.{all-append, all-moved}
 use Rattle.nn_query.proofs.Looking.{first-none}
-use Rattle.nn_query.proofs.Turns.{Looked, lighter, object-weighs, begun, all-lower, visited-all, opened-all, visited-shut, opened-shut, measured, logged, went-on}
+use Rattle.nn_query.proofs.Turns.{lighter, object-weighs, begun, all-lower, visited-all, opened-all, visited-shut, opened-shut, measured, logged, went-on}
 use Rattle.nn_query.proofs.near.visit_in_order.Goals as goal
 
 pub loop-first-init : goal.loop-first-init
@@ -24,7 +24,7 @@ loop-first-init g c =
       light = omega arith;
       looked = λ bounds.
           begun (g.R.Ruler.dist (g.R.Ruler.kind c.args.ruler.now)) (g.H.Hierarchy.object_at content) c.args.q.now (g.H.Hierarchy.nodes content) (g.H.Hierarchy.is_sound content) c.args.best.now.most
-          (items_of c.args.queue) (least_of c.args.best.now) (g.H.Hierarchy.opened c.args.held.now) bounds (c.requires.none ∙ first-none c.args.best.now.most);
+          (items_of c.args.queue) (least_of c.args.best.now) bounds (c.requires.none ∙ first-none c.args.best.now.most);
       logged = λ bounds. Grew-nothing (g.R.Ruler.log c.args.ruler.now);
     }
 
@@ -39,11 +39,11 @@ returns-then-shuts_out-clause-visited g c bounds =
     let begin = items_of c.args.queue in
     let cs = waiting nodes begin in
     let most = c.args.best.now.most in
-    let n = c.loop-first.measured in
+    let n = c.loop-first.seen.measured in
     let ls = least_of c.loop-first.best in
     let items = items_of c.loop-first.queue in
-    let opened = g.H.Hierarchy.opened c.loop-first.held in
-    let all = g.H.Hierarchy.opened c.args.held.now + reached dist object_at query nodes most begin in
+    let opened = c.loop-first.seen.opened in
+    let all = reached dist object_at query nodes most begin in
     let kept = c.loop-first.invariant in
     let f = c.in-Some.first in
     let new = items_of c.next.new.self in
@@ -64,11 +64,11 @@ returns-then-shuts_out-clause-opened g c bounds =
     let begin = items_of c.args.queue in
     let cs = waiting nodes begin in
     let most = c.args.best.now.most in
-    let n = c.loop-first.measured in
+    let n = c.loop-first.seen.measured in
     let ls = least_of c.loop-first.best in
     let items = items_of c.loop-first.queue in
-    let opened = g.H.Hierarchy.opened c.loop-first.held in
-    let all = g.H.Hierarchy.opened c.args.held.now + reached dist object_at query nodes most begin in
+    let opened = c.loop-first.seen.opened in
+    let all = reached dist object_at query nodes most begin in
     let kept = c.loop-first.invariant in
     let f = c.in-Some.first in
     let new = items_of c.next.new.self in
@@ -89,11 +89,11 @@ open-requires g c =
     let begin = items_of c.args.queue in
     let cs = waiting nodes begin in
     let most = c.args.best.now.most in
-    let n = c.loop-first.measured in
+    let n = c.loop-first.seen.measured in
     let ls = least_of c.loop-first.best in
     let items = items_of c.loop-first.queue in
-    let opened = g.H.Hierarchy.opened c.loop-first.held in
-    let all = g.H.Hierarchy.opened c.args.held.now + reached dist object_at query nodes most begin in
+    let opened = c.loop-first.seen.opened in
+    let all = reached dist object_at query nodes most begin in
     let kept = c.loop-first.invariant in
     let f = c.in-Some.first in
     let new = items_of c.next.new.self in
@@ -104,8 +104,8 @@ open-requires g c =
     let can_open : g.H.Hierarchy.can_open content c.in-Node.level f.place = subst (may_visit (g.H.Hierarchy.can_open content) (g.H.Hierarchy.can_measure content) f.place) c.in-Node.is visitable.0 in
     record { node = subst (λ x. g.H.Hierarchy.can_open x c.in-Node.level f.place) (sym kept.kept) can_open }
 
-pub loop-first-smaller-in-Continue-1 : goal.loop-first-smaller-in-Continue-1
-loop-first-smaller-in-Continue-1 g c =
+pub loop-first-smaller-in-Node : goal.loop-first-smaller-in-Node
+loop-first-smaller-in-Node g c =
     let dist = g.R.Ruler.dist (g.R.Ruler.kind c.args.ruler.now) in
     let content = g.H.Hierarchy.content c.args.held.now in
     let object_at = g.H.Hierarchy.object_at content in
@@ -115,11 +115,11 @@ loop-first-smaller-in-Continue-1 g c =
     let begin = items_of c.args.queue in
     let cs = waiting nodes begin in
     let most = c.args.best.now.most in
-    let n = c.loop-first.measured in
+    let n = c.loop-first.seen.measured in
     let ls = least_of c.loop-first.best in
     let items = items_of c.loop-first.queue in
-    let opened = g.H.Hierarchy.opened c.loop-first.held in
-    let all = g.H.Hierarchy.opened c.args.held.now + reached dist object_at query nodes most begin in
+    let opened = c.loop-first.seen.opened in
+    let all = reached dist object_at query nodes most begin in
     let kept = c.loop-first.invariant in
     let f = c.in-Some.first in
     let new = items_of c.next.new.self in
@@ -134,8 +134,8 @@ loop-first-smaller-in-Continue-1 g c =
     (subst (λ x. Opens (g.H.Hierarchy.nodes x) (g.H.Hierarchy.is_sound x) (CanVisit (g.H.Hierarchy.can_open x) (g.H.Hierarchy.can_measure x)) c.loop-first.best.most ls level f.place new now) kept.kept c.in_ok-open-in-Node.ensures.rows) in
     lighter nodes is_sound can_visit most ls level f items new now moved c.in-Node.is opens
 
-pub loop-first-preserved-in-Continue-1 : goal.loop-first-preserved-in-Continue-1
-loop-first-preserved-in-Continue-1 g c =
+pub loop-first-preserved-in-Node : goal.loop-first-preserved-in-Node
+loop-first-preserved-in-Node g c =
     let dist = g.R.Ruler.dist (g.R.Ruler.kind c.args.ruler.now) in
     let content = g.H.Hierarchy.content c.args.held.now in
     let object_at = g.H.Hierarchy.object_at content in
@@ -145,11 +145,11 @@ loop-first-preserved-in-Continue-1 g c =
     let begin = items_of c.args.queue in
     let cs = waiting nodes begin in
     let most = c.args.best.now.most in
-    let n = c.loop-first.measured in
+    let n = c.loop-first.seen.measured in
     let ls = least_of c.loop-first.best in
     let items = items_of c.loop-first.queue in
-    let opened = g.H.Hierarchy.opened c.loop-first.held in
-    let all = g.H.Hierarchy.opened c.args.held.now + reached dist object_at query nodes most begin in
+    let opened = c.loop-first.seen.opened in
+    let all = reached dist object_at query nodes most begin in
     let kept = c.loop-first.invariant in
     let f = c.in-Some.first in
     let new = items_of c.next.new.self in
@@ -174,7 +174,6 @@ loop-first-preserved-in-Continue-1 g c =
       visitable = all-moved can_visit (opens.put_in ++ new) now opens.added (all-append can_visit opens.put_in new opens.visitable visitable.1);
       light = omega (arith, less, light);
       looked = λ bounds.
-          subst (λ o. Looked dist object_at query nodes is_sound most cs n ls now o all) (sym c.in_ok-open-in-Node.ensures.opened)
           (went-on dist object_at query nodes is_sound most cs (all-lower dist object_at query nodes is_sound most begin bounds) n ls items opened all (kept.looked bounds) f new moved first fits level c.in-Node.is can_visit now opens);
       logged = kept.logged;
     }
@@ -190,11 +189,11 @@ measure-requires-clause-place g c =
     let begin = items_of c.args.queue in
     let cs = waiting nodes begin in
     let most = c.args.best.now.most in
-    let n = c.loop-first.measured in
+    let n = c.loop-first.seen.measured in
     let ls = least_of c.loop-first.best in
     let items = items_of c.loop-first.queue in
-    let opened = g.H.Hierarchy.opened c.loop-first.held in
-    let all = g.H.Hierarchy.opened c.args.held.now + reached dist object_at query nodes most begin in
+    let opened = c.loop-first.seen.opened in
+    let all = reached dist object_at query nodes most begin in
     let kept = c.loop-first.invariant in
     let f = c.in-Some.first in
     let new = items_of c.next.new.self in
@@ -216,11 +215,11 @@ loop-first-smaller g c =
     let begin = items_of c.args.queue in
     let cs = waiting nodes begin in
     let most = c.args.best.now.most in
-    let n = c.loop-first.measured in
+    let n = c.loop-first.seen.measured in
     let ls = least_of c.loop-first.best in
     let items = items_of c.loop-first.queue in
-    let opened = g.H.Hierarchy.opened c.loop-first.held in
-    let all = g.H.Hierarchy.opened c.args.held.now + reached dist object_at query nodes most begin in
+    let opened = c.loop-first.seen.opened in
+    let all = reached dist object_at query nodes most begin in
     let kept = c.loop-first.invariant in
     let f = c.in-Some.first in
     let new = items_of c.next.new.self in
@@ -239,11 +238,11 @@ loop-first-preserved g c =
     let begin = items_of c.args.queue in
     let cs = waiting nodes begin in
     let most = c.args.best.now.most in
-    let n = c.loop-first.measured in
+    let n = c.loop-first.seen.measured in
     let ls = least_of c.loop-first.best in
     let items = items_of c.loop-first.queue in
-    let opened = g.H.Hierarchy.opened c.loop-first.held in
-    let all = g.H.Hierarchy.opened c.args.held.now + reached dist object_at query nodes most begin in
+    let opened = c.loop-first.seen.opened in
+    let all = reached dist object_at query nodes most begin in
     let kept = c.loop-first.invariant in
     let f = c.in-Some.first in
     let new = items_of c.next.new.self in
@@ -271,7 +270,6 @@ loop-first-preserved g c =
       visitable = visitable.1;
       light = omega (arith, weight, light);
       looked = λ bounds.
-          subst (λ o. Looked dist object_at query nodes is_sound most cs (n + 1) (least_of c.put.new.self) new o all) (sym c.measure.ensures.opened)
           (measured dist object_at query nodes is_sound most cs (all-lower dist object_at query nodes is_sound most begin bounds) n ls items opened all (kept.looked bounds) f new moved first fits id c.in-Object.is (least_of c.put.new.self) put);
       logged = λ bounds.
           Grew-same (g.R.Ruler.log c.args.ruler.now) (g.R.Ruler.log c.measure.new.ruler) _ _
@@ -291,11 +289,11 @@ returns-clause-visited g c bounds =
     let begin = items_of c.args.queue in
     let cs = waiting nodes begin in
     let most = c.args.best.now.most in
-    let n = c.loop-first.measured in
+    let n = c.loop-first.seen.measured in
     let ls = least_of c.loop-first.best in
     let items = items_of c.loop-first.queue in
-    let opened = g.H.Hierarchy.opened c.loop-first.held in
-    let all = g.H.Hierarchy.opened c.args.held.now + reached dist object_at query nodes most begin in
+    let opened = c.loop-first.seen.opened in
+    let all = reached dist object_at query nodes most begin in
     let kept = c.loop-first.invariant in
     let none : items ≡ [] = search rules in
     visited-all dist object_at query nodes is_sound most cs (all-lower dist object_at query nodes is_sound most begin bounds) n ls items opened all (kept.looked bounds) none
@@ -311,11 +309,11 @@ returns-clause-opened g c bounds =
     let begin = items_of c.args.queue in
     let cs = waiting nodes begin in
     let most = c.args.best.now.most in
-    let n = c.loop-first.measured in
+    let n = c.loop-first.seen.measured in
     let ls = least_of c.loop-first.best in
     let items = items_of c.loop-first.queue in
-    let opened = g.H.Hierarchy.opened c.loop-first.held in
-    let all = g.H.Hierarchy.opened c.args.held.now + reached dist object_at query nodes most begin in
+    let opened = c.loop-first.seen.opened in
+    let all = reached dist object_at query nodes most begin in
     let kept = c.loop-first.invariant in
     let none : items ≡ [] = search rules in
     opened-all dist object_at query nodes is_sound most cs (all-lower dist object_at query nodes is_sound most begin bounds) n ls items opened all (kept.looked bounds) none

@@ -23,12 +23,12 @@ invariant-loop-first g l =
       kept : g.H.Hierarchy.content l.held ≡ content;
       most : l.best.most ≡ l.fn.best.most;
       same_kind : g.R.Ruler.kind l.ruler ≡ kind;
-      count : g.R.Ruler.count l.ruler ≡ g.R.Ruler.count l.fn.ruler + l.measured;
+      count : g.R.Ruler.count l.ruler ≡ g.R.Ruler.count l.fn.ruler + l.seen.measured;
       visitable : AllByRecursion (CanVisit (g.H.Hierarchy.can_open content) (g.H.Hierarchy.can_measure content)) (items_of l.queue);
-      light : l.measured + sum_by (weight_of nodes) (items_of l.queue) ≤ sum_by (weight_of nodes) items;
+      light : l.seen.measured + l.seen.opened + sum_by (weight_of nodes) (items_of l.queue) ≤ sum_by (weight_of nodes) items;
       looked : AreBounds dist object_at l.fn.q nodes is_sound items
-          → Looked dist object_at l.fn.q nodes is_sound l.fn.best.most cs l.measured (least_of l.best) (items_of l.queue) (g.H.Hierarchy.opened l.held) (g.H.Hierarchy.opened l.fn.held + reached dist object_at l.fn.q nodes l.fn.best.most items);
-      logged : AreBounds dist object_at l.fn.q nodes is_sound items → Grew (g.R.Ruler.log l.fn.ruler) (g.R.Ruler.log l.ruler) (each_with l.fn.q (objects_at object_at (take l.measured cs)));
+          → Looked dist object_at l.fn.q nodes is_sound l.fn.best.most cs l.seen.measured (least_of l.best) (items_of l.queue) l.seen.opened (reached dist object_at l.fn.q nodes l.fn.best.most items);
+      logged : AreBounds dist object_at l.fn.q nodes is_sound items → Grew (g.R.Ruler.log l.fn.ruler) (g.R.Ruler.log l.ruler) (each_with l.fn.q (objects_at object_at (take l.seen.measured cs)));
     }
 
 abbrev pub decreases-loop-first : goal.decreases-loop-first

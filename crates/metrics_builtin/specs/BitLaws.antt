@@ -7,7 +7,7 @@ use Rattle.std.proofs.Math.Pow.{pow_mono}
 use Rattle.std.proofs.lemmas.Bool.{cases_lt}
 use Rattle.std.proofs.lemmas.Bool.Decides.{nat_tests}
 use Rattle.std.proofs.lemmas.List.Sums.{sum_by-cons}
-use Rattle.metrics_builtin.specs.Space.{IsWidth, width_of}
+use Rattle.metrics_builtin.specs.Space.{IsBitCount, bit_count}
 
 -- 1 where 2 ^ b is not past n
 abbrev held : ℕ → ℕ → ℕ
@@ -48,10 +48,10 @@ count_held n r a (suc m) low high start end = elim (cases_lt r a) [
 ]
 
 -- the number is one more than the place of the highest bit
-pub width_of-highest : (n r : ℕ) → 2 ^ r ≤ n → n < 2 ^ (r + 1) → r < 32 → width_of n ≡ r + 1
-unfolding width_of
-width_of-highest n zero low high small = omega (arith, none_held n 1 1 31 high (omega arith))
-width_of-highest n (suc r) low high small = omega (arith, count_held n (suc r) 1 31 low high (omega arith) (omega arith))
+pub bit_count-highest : (n r : ℕ) → 2 ^ r ≤ n → n < 2 ^ (r + 1) → r < 32 → bit_count n ≡ r + 1
+unfolding bit_count
+bit_count-highest n zero low high small = omega (arith, none_held n 1 1 31 high (omega arith))
+bit_count-highest n (suc r) low high small = omega (arith, count_held n (suc r) 1 31 low high (omega arith) (omega arith))
 
 not_less : (n r other : ℕ) → 2 ^ r ≤ n → n < 2 ^ other → r + 1 ≤ other
 not_less n r other low high = elim (cases_lt r other) [
@@ -60,8 +60,8 @@ not_less n r other low high = elim (cases_lt r other) [
 ]
 
 -- and it is the least that will do
-pub IsWidth-highest : (n r : ℕ) → 2 ^ r ≤ n → n < 2 ^ (r + 1) → IsWidth n (r + 1)
-IsWidth-highest n r low high = record {
+pub IsBitCount-highest : (n r : ℕ) → 2 ^ r ≤ n → n < 2 ^ (r + 1) → IsBitCount n (r + 1)
+IsBitCount-highest n r low high = record {
   some = omega arith;
   enough = high;
   least = λ other some enough. not_less n r other low enough;
