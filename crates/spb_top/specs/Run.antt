@@ -71,11 +71,10 @@ pub record NoneFell (outside : Outside) : Type 0 where
   pub sink : outside.sink.before ≤ outside.sink.now
   pub disk : outside.disk.before ≤ outside.disk.now
 
--- no count of faults rose
+-- neither the source's count of faults rose nor the sink's; a store in memory touches no disk
 pub record NoneRose (outside : Outside) : Type 0 where
   pub source : Rose outside.source.before outside.source.now → ⊥
   pub sink : Rose outside.sink.before outside.sink.now → ⊥
-  pub disk : Rose outside.disk.before outside.disk.now → ⊥
 
 -- why the run ended so
 abbrev pub HasCause : Status → Outside → Type 0
@@ -105,8 +104,8 @@ stopped_by edge.Memory = NoMemory
 abbrev pub Asks : Option MemorySetup → Status → Type 0
 Asks asked status = (status ≡ Usage) ↔ (asked ≡ None)
 
--- the words were in the grammar, no fault was counted, and the input was told and within the limit: then the work was
--- done, or memory ran out
+-- the words asked for a store in memory, neither the source nor the sink counted a fault, and the input was told and
+-- within the limit: then the work was done, or memory ran out
 abbrev pub Completes : Status → Option MemorySetup → Outside → Type 0
 Completes status asked outside = (setup : MemorySetup) → asked ≡ Some setup → (script : List ℕ) → outside.told ≡ Some script → length script ≤ 2 ^ 30
     → NoneRose outside → IsDoneOrNoMemory status
