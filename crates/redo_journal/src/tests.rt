@@ -160,22 +160,34 @@ fn commit_and_crash(
     disk.after_crash(alloc, choice)
 }
 
-#[test]
-fn a_crash_leaves_a_committed_page_or_none(rt: HostRuntime) -> Result<(), Fail> {
-    let old = file(rt.alloc(), 90)?;
+/// What page 86 is after the crash and a recovery, where it was 86 in every byte: the old one, the new
+/// one, or Mixed.
+fn page_after_crash(alloc: Global, old: &[u8], failing: u64, choice: Choice) -> Result<Home, Fail> {
     if old.len() != 46080 {
         return Err(Fail::new("not 90 pages"));
     }
+    let left = commit_and_crash(alloc, old, &[failing], &changed(86), choice)?;
+    let mut disk = disk_of(alloc, left.as_slice(), &[], None)?;
+    recover(alloc, &mut disk)??;
+    let page = disk.image().get(44032..44544).unwrap_or(&[]);
+    if page == changed(86).as_slice() {
+        return Ok(Home::New);
+    }
+    let is_old = page == [86; 512].as_slice();
+    Ok(if is_old { Home::Old } else { Home::Mixed })
+}
+
+#[test]
+fn a_crash_leaves_a_committed_page_or_none(rt: HostRuntime) -> Result<(), Fail> {
+    let old = file(rt.alloc(), 90)?;
     for failing in 1..5 {
-        for choice in [Choice::KeepAll, Choice::DropAll, Choice::Fill(0x37)] {
-            let left = commit_and_crash(rt.alloc(), &old, &[failing], &changed(86), choice)?;
-            let mut disk = disk_of(rt.alloc(), left.as_slice(), &[], None)?;
-            recover(rt.alloc(), &mut disk)??;
-            let page = disk.image().get(44032..44544).unwrap_or(&[]);
-            let is_new = page == changed(86).as_slice();
-            assert!(rt; is_new || page == [86; 512].as_slice(), "{failing}");
-            assert!(rt; failing > 2 || !is_new, "{failing}");
-        }
+        let kept = page_after_crash(rt.alloc(), &old, failing, Choice::KeepAll)?;
+        let dropped = page_after_crash(rt.alloc(), &old, failing, Choice::DropAll)?;
+        let filled = page_after_crash(rt.alloc(), &old, failing, Choice::Fill(0x37))?;
+        assert!(rt; kept != Home::Mixed && dropped != Home::Mixed && filled != Home::Mixed);
+        // Before the third call the gate isn't written.
+        let none_new = kept == Home::Old && dropped == Home::Old && filled == Home::Old;
+        assert!(rt; failing > 2 || none_new);
     }
     Ok(())
 }
@@ -200,16 +212,30 @@ fn home_on_the_same_disk(alloc: Global, old: &[u8], failing: &[u64]) -> Result<H
     Ok(home)
 }
 
+/// Whether a fault at the first call and then one at each of the ten calls after it leave this.
+fn is_left_by_two_faults(
+    alloc: Global,
+    old: &[u8],
+    first: u64,
+    expected: &Home,
+) -> Result<bool, Fail> {
+    for second in first + 1..first + 11 {
+        if home_on_the_same_disk(alloc, old, &[first, second])? != *expected {
+            return Ok(false);
+        }
+    }
+    Ok(true)
+}
+
 #[test]
 fn a_file_is_opened_again_on_the_disk_that_failed(rt: HostRuntime) -> Result<(), Fail> {
     let old = file(rt.alloc(), 90)?;
-    for first in 1..10 {
-        for second in first + 1..first + 11 {
-            let home = home_on_the_same_disk(rt.alloc(), &old, &[first, second])?;
-            assert!(rt; home != Home::Mixed, "{first} {second}");
-            // From the fourth call on, the sync of the open gate, the image has the change.
-            assert!(rt; (home == Home::New) == (first > 3), "{first} {second}");
-        }
+    for first in 1..4 {
+        assert!(rt; is_left_by_two_faults(rt.alloc(), &old, first, &Home::Old)?);
+    }
+    // From the fourth call on, the sync of the open gate, the image has the change.
+    for first in 4..10 {
+        assert!(rt; is_left_by_two_faults(rt.alloc(), &old, first, &Home::New)?);
     }
     Ok(())
 }

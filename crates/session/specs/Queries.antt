@@ -3,7 +3,6 @@ use Rattle.std.specs.Prelude.{◌≡◌, ℕ, List, Result, Ok, Err}
 use Rattle.std.specs.List.Sorted.{IsPermutation}
 use Rattle.spb_edge.specs.declared.reader.Line.{Line}
 use Rattle.spb_edge.specs.declared.memory.Memory.{Memory}
-use Rattle.metrics_builtin.specs.declared.Space.{Space}
 use Rattle.spb_defs.specs.declared.Command.{Command}
 use Rattle.spb_defs.specs.declared.Reply.{Reply}
 use Rattle.spb_defs.specs.State.{State, rows_of}

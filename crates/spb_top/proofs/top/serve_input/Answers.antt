@@ -1,5 +1,4 @@
-use Rattle.std.proofs.Common.{rules, refl}
-use Rattle.spb_top.proofs.Running.{cause_beside}
+use Rattle.std.proofs.Common.{rules}
 use Rattle.spb_top.proofs.top.serve_input.Goals as goal
 
 pub returns-clause-input : goal.returns-clause-input

@@ -1,6 +1,6 @@
 use Rattle.std.proofs.Common.{◌≡◌, Ok, refl, sym, ◌∙◌, subst, arith}
 use Rattle.std.proofs.lemmas.Result.{IfOk-weaker, on_ok_weaker}
-use Rattle.spb_defs.specs.Step.{reply, next, reply_to, after}
+use Rattle.spb_defs.specs.Step.{reply, reply_to}
 use Rattle.session.specs.Queries.{ReadsLine}
 use Rattle.session.specs.Store.{state_of}
 use Rattle.session.proofs.store.Store.turn.Goals as goal
