@@ -11,7 +11,7 @@ use Rattle.curve_laws.specs.GridLaws.{cell_up_to}
 use Rattle.curve_laws.specs.Vectors.{IsUpTo, length-IsUpTo}
 use Rattle.z_curve.specs.ZOrder.{halves, low_bits, z_key}
 use Rattle.z_curve.specs.ZLaws.{z_key-below}
-use Rattle.z_curve.specs.Spacing.{width, pieces, spread}
+use Rattle.z_curve.specs.Spacing.{most_bits, pieces, spread}
 use Rattle.z_curve.proofs.Pieces.{pieces-one, pieces-zero}
 
 -- the coordinates' bits, the last coordinate's from the lowest place on, the one before it from the next
@@ -156,7 +156,7 @@ z_key-le n b v w some long up_to below =
 -- ---- what fits
 
 -- coordinates in range have no more bits than there is room for
-pub bits-fit : (n b : ℕ) → IsGrid n b → b ≤ width n
+pub bits-fit : (n b : ℕ) → IsGrid n b → b ≤ most_bits n
 bits-fit n b range =
     let some : 1 ≤ n = range.some_axis in
     let few : b * n ≤ 64 = omega (arith, range.fits) in
@@ -164,9 +164,9 @@ bits-fit n b range =
     let short : b ≤ 32 = range.few_bits in
     omega arith
 
-pub below-width : (n b x : ℕ) → IsGrid n b → x < 2 ^ b → x < 2 ^ width n
-below-width n b x range small =
-    let power : 2 ^ b ≤ 2 ^ width n = pow-le-pow_right {n = 2} (omega arith) (bits-fit n b range) in
+pub below-most_bits : (n b x : ℕ) → IsGrid n b → x < 2 ^ b → x < 2 ^ most_bits n
+below-most_bits n b x range small =
+    let power : 2 ^ b ≤ 2 ^ most_bits n = pow-le-pow_right {n = 2} (omega arith) (bits-fit n b range) in
     omega arith
 
 -- the key of a cell is interleaved from its coordinates as numbers of 32 bits
@@ -208,8 +208,8 @@ one_more n b i key s v cell h front bits =
     (omega (arith, more, front, bits), omega (arith, more, front, bits, part, whole))
 
 -- a coordinate has the bits that there is room for
-pub coordinate-below : (n b i : ℕ) (v : List ℕ) → IsCell n b v → i < length v → get_or v i 0 < 2 ^ width n
-coordinate-below n b i v cell h = below-width n b (get_or v i 0) cell.grid (cell.below i 0 h)
+pub coordinate-below : (n b i : ℕ) (v : List ℕ) → IsCell n b v → i < length v → get_or v i 0 < 2 ^ most_bits n
+coordinate-below n b i v cell h = below-most_bits n b (get_or v i 0) cell.grid (cell.below i 0 h)
 
 -- all coordinates are the key
 pub whole_key : (n b i key : ℕ) (v : List ℕ) → IsCell n b v → key ≡ interleaved n 32 (take i v) → length v ≤ i → key ≡ z_key b v

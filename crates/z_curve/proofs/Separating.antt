@@ -3,7 +3,7 @@ use Rattle.std.proofs.Common.{◌≡◌, ℕ, zero, suc, ◌+◌, ◌-◌, ◌*�
 use Rattle.std.proofs.lemmas.Nat.{shr_below, shr_le}
 use Rattle.curve_laws.specs.Grid.{IsKey}
 use Rattle.z_curve.specs.ZOrder.{gathered, last_coordinates, z_cell}
-use Rattle.z_curve.specs.Spacing.{width}
+use Rattle.z_curve.specs.Spacing.{most_bits}
 use Rattle.z_curve.proofs.Interleaving.{bits-fit}
 
 gathered-suc : (n b k : ℕ) → gathered n (suc b) k ≡ 2 * gathered n b (k / 2 ^ n) + k % 2
@@ -44,9 +44,9 @@ cell_by_places n b (suc m) k (x ∷ xs) long each =
     each (suc i) (omega arith) ∙ ap (λ t. gathered n b (k / 2 ^ t)) next) in
     cc
 
-pub separated : (n b k : ℕ) (v : List ℕ) → IsKey n b k → length v ≡ n → ((i : ℕ) → i < n → get_or v i 0 ≡ gathered n (width n) (k / 2 ^ (n - 1 - i))) → v ≡ z_cell n b k
+pub separated : (n b k : ℕ) (v : List ℕ) → IsKey n b k → length v ≡ n → ((i : ℕ) → i < n → get_or v i 0 ≡ gathered n (most_bits n) (k / 2 ^ (n - 1 - i))) → v ≡ z_cell n b k
 separated n b k v key long each =
-    let room : b + (width n - b) ≡ width n = omega (arith, bits-fit n b key.grid) in
+    let room : b + (most_bits n - b) ≡ most_bits n = omega (arith, bits-fit n b key.grid) in
     cell_by_places n b n k v long (λ i h.
     let short : k / 2 ^ (n - 1 - i) < 2 ^ (n * b) = omega (arith, shr_le k (n - 1 - i), key.below) in
-    each i h ∙ ap (λ t. gathered n t (k / 2 ^ (n - 1 - i))) (sym room) ∙ gathered-longer n b (width n - b) (k / 2 ^ (n - 1 - i)) short)
+    each i h ∙ ap (λ t. gathered n t (k / 2 ^ (n - 1 - i))) (sym room) ∙ gathered-longer n b (most_bits n - b) (k / 2 ^ (n - 1 - i)) short)

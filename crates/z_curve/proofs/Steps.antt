@@ -4,7 +4,7 @@ use Rattle.std.proofs.lemmas.Nat.{pow_pos, pow-add, and_mask, mod_low, mul-le}
 use Rattle.std.specs.Int.Bits.{or_self}
 use Rattle.std.proofs.lemmas.Bool.{cases_lt, lt-ltb, le-ltb}
 use Rattle.std.proofs.Math.Nat.{pow-le-pow_right}
-use Rattle.z_curve.specs.Spacing.{width, pieces, cut_to, shift_of, mask_of}
+use Rattle.z_curve.specs.Spacing.{most_bits, pieces, cut_to, shift_of, mask_of}
 use Rattle.z_curve.specs.ZOrder.{gathered}
 use Rattle.z_curve.specs.ZLaws.{gathered-below}
 use Rattle.z_curve.proofs.Pieces.{or_within, cut, joint, pieces-small, pieces-touch, first_mask, gathered-mod}
@@ -95,19 +95,19 @@ one_coordinate i x early small =
 
 -- ---- the step of the table
 
-shift_moved : (n i : ℕ) → 2 ^ (4 - i) < width n → shift_of n i ≡ (n - 1) * 2 ^ (4 - i)
-shift_moved n i h = ap (λ t. cond t ((n - 1) * 2 ^ (4 - i)) 0) (lt-ltb (2 ^ (4 - i)) (width n) h)
+shift_moved : (n i : ℕ) → 2 ^ (4 - i) < most_bits n → shift_of n i ≡ (n - 1) * 2 ^ (4 - i)
+shift_moved n i h = ap (λ t. cond t ((n - 1) * 2 ^ (4 - i)) 0) (lt-ltb (2 ^ (4 - i)) (most_bits n) h)
 
-shift_still : (n i : ℕ) → width n ≤ 2 ^ (4 - i) → shift_of n i ≡ 0
-shift_still n i h = ap (λ t. cond t ((n - 1) * 2 ^ (4 - i)) 0) (le-ltb (2 ^ (4 - i)) (width n) h)
+shift_still : (n i : ℕ) → most_bits n ≤ 2 ^ (4 - i) → shift_of n i ≡ 0
+shift_still n i h = ap (λ t. cond t ((n - 1) * 2 ^ (4 - i)) 0) (le-ltb (2 ^ (4 - i)) (most_bits n) h)
 
 -- one bit less than the next power
 ones_below : (w : ℕ) → 2 ^ w - 1 < 2 ^ w
 ones_below w = omega (arith, pow_pos w)
 
 -- a coordinate has at most 32 bits
-width-le : (n : ℕ) → width n ≤ 32
-width-le n = omega arith
+most_bits-le : (n : ℕ) → most_bits n ≤ 32
+most_bits-le n = omega arith
 
 -- the pieces get smaller
 pieces_fall : (i : ℕ) → i < 5 → 2 ^ (4 - i) ≤ 2 ^ (5 - i)
@@ -117,53 +117,53 @@ pieces_fall i early = pow-le-pow_right {n = 2} (omega arith) (omega arith)
 -- one piece
 pub data IsStep (n i shift : ℕ) : Type 0 where
   Moves : 2 ≤ n → shift ≡ (n - 1) * 2 ^ (4 - i) → IsStep n i shift
-  Stands : shift ≡ 0 → ((x : ℕ) → x < 2 ^ width n → (cut_to n i x ≡ x) × (cut_to n (i + 1) x ≡ x)) → IsStep n i shift
+  Stands : shift ≡ 0 → ((x : ℕ) → x < 2 ^ most_bits n → (cut_to n i x ≡ x) × (cut_to n (i + 1) x ≡ x)) → IsStep n i shift
 
-narrow_step : (n i : ℕ) → i < 5 → width n ≤ 2 ^ (4 - i) → IsStep n i (shift_of n i)
+narrow_step : (n i : ℕ) → i < 5 → most_bits n ≤ 2 ^ (4 - i) → IsStep n i (shift_of n i)
 narrow_step n i early narrow =
     let level : 5 - (i + 1) ≡ 4 - i = omega arith in
-    let next : width n ≤ 2 ^ (5 - (i + 1)) = rw level narrow in
+    let next : most_bits n ≤ 2 ^ (5 - (i + 1)) = rw level narrow in
     let fall : 2 ^ (4 - i) ≤ 2 ^ (5 - i) = pieces_fall i early in
-    Stands (shift_still n i narrow) (λ x small. (one_piece n i (width n) x (omega arith) small, one_piece n (i + 1) (width n) x next small))
+    Stands (shift_still n i narrow) (λ x small. (one_piece n i (most_bits n) x (omega arith) small, one_piece n (i + 1) (most_bits n) x next small))
 
 one_step : (i shift : ℕ) → i < 5 → shift ≡ 0 → IsStep 1 i shift
 one_step i shift early none = Stands none (λ x small. (one_coordinate i x (omega arith) small, one_coordinate (i + 1) x (omega arith) small))
 
-wide_step : (n i : ℕ) → 1 ≤ n → i < 5 → 2 ^ (4 - i) < width n → IsStep n i (shift_of n i)
+wide_step : (n i : ℕ) → 1 ≤ n → i < 5 → 2 ^ (4 - i) < most_bits n → IsStep n i (shift_of n i)
 wide_step zero i some early wide = absurd (omega arith)
 wide_step (suc zero) i some early wide = one_step i (shift_of 1 i) early (shift_moved 1 i wide ∙ omega arith)
 wide_step (suc (suc n)) i some early wide = Moves (omega arith) (shift_moved (suc (suc n)) i wide)
 
 any_step : (n i : ℕ) → 1 ≤ n → i < 5 → IsStep n i (shift_of n i)
-any_step n i some early = elim (cases_lt (2 ^ (4 - i)) (width n)) [
+any_step n i some early = elim (cases_lt (2 ^ (4 - i)) (most_bits n)) [
   | inl wide ↦ wide_step n i some early wide
   | inr narrow ↦ narrow_step n i early narrow
 ]
 
-spread_by : (n i x shift mask : ℕ) → i < 5 → x < 2 ^ width n → IsStep n i shift → mask ≡ mask_of n (i + 1) → mask < 2 ^ 64 →
+spread_by : (n i x shift mask : ℕ) → i < 5 → x < 2 ^ most_bits n → IsStep n i shift → mask ≡ mask_of n (i + 1) → mask < 2 ^ 64 →
     bit_and (bit_or (cut_to n i x) (cut_to n i x * 2 ^ shift % 2 ^ 64)) mask ≡ cut_to n (i + 1) x
 spread_by n i x shift mask early small (Moves many moved) masked within =
     rw (before n i x early, after n i x early)
-    (cut_step n (2 ^ (4 - i)) (2 ^ i) x (width n) shift mask many small moved (masked ∙ after n i (2 ^ width n - 1) early) within)
+    (cut_step n (2 ^ (4 - i)) (2 ^ i) x (most_bits n) shift mask many small moved (masked ∙ after n i (2 ^ most_bits n - 1) early) within)
 spread_by n i x shift mask early small (Stands still whole) masked within =
-    let ones : mask ≡ 2 ^ width n - 1 = masked ∙ (whole (2 ^ width n - 1) (ones_below (width n))).1 in
-    rw ((whole x small).0, (whole x small).1, still, ones) (still_cut x (width n) small (omega (arith, width-le n)))
+    let ones : mask ≡ 2 ^ most_bits n - 1 = masked ∙ (whole (2 ^ most_bits n - 1) (ones_below (most_bits n))).1 in
+    rw ((whole x small).0, (whole x small).1, still, ones) (still_cut x (most_bits n) small (omega (arith, most_bits-le n)))
 
-gather_by : (n i x shift mask : ℕ) → i < 5 → x < 2 ^ width n → IsStep n i shift → mask ≡ mask_of n i →
+gather_by : (n i x shift mask : ℕ) → i < 5 → x < 2 ^ most_bits n → IsStep n i shift → mask ≡ mask_of n i →
     bit_and (bit_or (cut_to n (i + 1) x) (cut_to n (i + 1) x / 2 ^ shift)) mask ≡ cut_to n i x
 gather_by n i x shift mask early small (Moves many moved) masked =
     rw (before n i x early, after n i x early)
-    (joint_step n (2 ^ (4 - i)) (2 ^ i) x (width n) shift mask many small moved (masked ∙ before n i (2 ^ width n - 1) early))
+    (joint_step n (2 ^ (4 - i)) (2 ^ i) x (most_bits n) shift mask many small moved (masked ∙ before n i (2 ^ most_bits n - 1) early))
 gather_by n i x shift mask early small (Stands still whole) masked =
-    let ones : mask ≡ 2 ^ width n - 1 = masked ∙ (whole (2 ^ width n - 1) (ones_below (width n))).0 in
-    rw ((whole x small).0, (whole x small).1, still, ones) (still_joint x (width n) small)
+    let ones : mask ≡ 2 ^ most_bits n - 1 = masked ∙ (whole (2 ^ most_bits n - 1) (ones_below (most_bits n))).0 in
+    rw ((whole x small).0, (whole x small).1, still, ones) (still_joint x (most_bits n) small)
 
-pub spread_step : (n i x shift mask : ℕ) → 1 ≤ n → i < 5 → x < 2 ^ width n → shift ≡ shift_of n i → mask ≡ mask_of n (i + 1) → mask < 2 ^ 64 →
+pub spread_step : (n i x shift mask : ℕ) → 1 ≤ n → i < 5 → x < 2 ^ most_bits n → shift ≡ shift_of n i → mask ≡ mask_of n (i + 1) → mask < 2 ^ 64 →
     bit_and (bit_or (cut_to n i x) (cut_to n i x * 2 ^ shift % 2 ^ 64)) mask ≡ cut_to n (i + 1) x
 spread_step n i x shift mask some early small moved masked within =
     spread_by n i x shift mask early small (subst (λ t. IsStep n i t) (sym moved) (any_step n i some early)) masked within
 
-pub gather_step : (n i x shift mask : ℕ) → 1 ≤ n → i < 5 → x < 2 ^ width n → shift ≡ shift_of n i → mask ≡ mask_of n i →
+pub gather_step : (n i x shift mask : ℕ) → 1 ≤ n → i < 5 → x < 2 ^ most_bits n → shift ≡ shift_of n i → mask ≡ mask_of n i →
     bit_and (bit_or (cut_to n (i + 1) x) (cut_to n (i + 1) x / 2 ^ shift)) mask ≡ cut_to n i x
 gather_step n i x shift mask some early small moved masked =
     gather_by n i x shift mask early small (subst (λ t. IsStep n i t) (sym moved) (any_step n i some early)) masked
@@ -175,17 +175,17 @@ pub whole_before : (n x : ℕ) → x < 2 ^ 32 → cut_to n 0 x ≡ x
 whole_before n x small = pieces-small 32 (n * 32) 1 x (omega arith) small
 
 -- after the last step the bits stand alone
-pub bits_before : (n k : ℕ) → 1 ≤ n → bit_and k (mask_of n 5) ≡ cut_to n 5 (gathered n (width n) k)
+pub bits_before : (n k : ℕ) → 1 ≤ n → bit_and k (mask_of n 5) ≡ cut_to n 5 (gathered n (most_bits n) k)
 bits_before n k some =
     let places : n * 1 ≡ n = omega arith in
-    let rest : width n + (32 - width n) ≡ 32 = omega (arith, width-le n) in
-    let few : bit_and (gathered n 32 k) (2 ^ width n - 1) ≡ gathered n (width n) k =
-    and_mask (gathered n 32 k) (width n) ∙ ap (λ t. gathered n t k % 2 ^ width n) (sym rest) ∙ gathered-mod n (width n) (32 - width n) k in
-    ap (λ t. bit_and k (pieces 1 t 32 (2 ^ width n - 1))) places ∙ first_mask n 32 k (2 ^ width n - 1) some
-    ∙ ap (λ t. pieces 1 n 32 t) few ∙ ap (λ t. pieces 1 t 32 (gathered n (width n) k)) (sym places)
+    let rest : most_bits n + (32 - most_bits n) ≡ 32 = omega (arith, most_bits-le n) in
+    let few : bit_and (gathered n 32 k) (2 ^ most_bits n - 1) ≡ gathered n (most_bits n) k =
+    and_mask (gathered n 32 k) (most_bits n) ∙ ap (λ t. gathered n t k % 2 ^ most_bits n) (sym rest) ∙ gathered-mod n (most_bits n) (32 - most_bits n) k in
+    ap (λ t. bit_and k (pieces 1 t 32 (2 ^ most_bits n - 1))) places ∙ first_mask n 32 k (2 ^ most_bits n - 1) some
+    ∙ ap (λ t. pieces 1 n 32 t) few ∙ ap (λ t. pieces 1 t 32 (gathered n (most_bits n) k)) (sym places)
 
 -- a gathered number has 32 bits
-pub small_gathered : (n k : ℕ) → gathered n (width n) k < 2 ^ 32
+pub small_gathered : (n k : ℕ) → gathered n (most_bits n) k < 2 ^ 32
 small_gathered n k =
-    let wide : 2 ^ width n ≤ 2 ^ 32 = pow-le-pow_right {n = 2} (omega arith) (width-le n) in
-    omega (arith, wide, gathered-below n (width n) k)
+    let wide : 2 ^ most_bits n ≤ 2 ^ 32 = pow-le-pow_right {n = 2} (omega arith) (most_bits-le n) in
+    omega (arith, wide, gathered-below n (most_bits n) k)

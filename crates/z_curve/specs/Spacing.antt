@@ -2,8 +2,8 @@
 use Rattle.std.specs.Prelude.{ℕ, zero, suc, ◌+◌, ◌-◌, ◌*◌, ◌/◌, ◌%◌, ◌^◌, min, cond, nat_lt}
 
 -- how many bits of each coordinate go into 64 bits, 32 at most
-abbrev pub width : ℕ → ℕ
-width n = min 32 (64 / n)
+abbrev pub most_bits : ℕ → ℕ
+most_bits n = min 32 (64 / n)
 
 -- j pieces of p bits of a number, from its lowest bit on, each d places after the one before
 unfoldable pub pieces : ℕ → ℕ → ℕ → ℕ → ℕ
@@ -21,8 +21,8 @@ cut_to n i x = pieces (2 ^ (5 - i)) (n * 2 ^ (5 - i)) (2 ^ i) x
 -- how far step i, which leaves pieces of 2 ^ (4 - i) bits, moves the upper half of each; nowhere
 -- where a coordinate has no more bits than that
 abbrev pub shift_of : ℕ → ℕ → ℕ
-shift_of n i = cond (nat_lt (2 ^ (4 - i)) (width n)) ((n - 1) * 2 ^ (4 - i)) 0
+shift_of n i = cond (nat_lt (2 ^ (4 - i)) (most_bits n)) ((n - 1) * 2 ^ (4 - i)) 0
 
 -- where bits stand before step i
 abbrev pub mask_of : ℕ → ℕ → ℕ
-mask_of n i = cut_to n i (2 ^ width n - 1)
+mask_of n i = cut_to n i (2 ^ most_bits n - 1)

@@ -1,7 +1,7 @@
 //! The bits of a number set apart, and brought together again.
 ghost use Rattle.std.specs.Prelude.{◌≡◌, ℕ, ◌^◌, ◌<◌, ◌≤◌, slice_index};
 ghost use Rattle.z_curve.specs.ZOrder.{gathered};
-ghost use Rattle.z_curve.specs.Spacing.{width, spread, shift_of, mask_of};
+ghost use Rattle.z_curve.specs.Spacing.{most_bits, spread, shift_of, mask_of};
 
 /// How the bits of a number are set so many places apart, in five steps: pieces of 32 bits are cut
 /// into pieces of 16, 8, 4, 2 and 1.
@@ -129,7 +129,7 @@ fn spacing_of(coordinates: usize) -> &'static Spacing
 pub(crate) fn spread<const N: usize>(number: u32) -> u64
     requires low { 1 ≤ N }
     requires high { N ≤ 8 }
-    requires bits { number < 2 ^ width N }
+    requires bits { number < 2 ^ most_bits N }
     ensures { result ≡ spread N 32 number }
 {
     let spacing = spacing_of(N);
@@ -145,7 +145,7 @@ pub(crate) fn spread<const N: usize>(number: u32) -> u64
 pub(crate) fn gather<const N: usize>(key: u64) -> u32
     requires low { 1 ≤ N }
     requires high { N ≤ 8 }
-    ensures { result ≡ gathered N (width N) key }
+    ensures { result ≡ gathered N (most_bits N) key }
 {
     let spacing = spacing_of(N);
     let mut gathered = key & spacing.masks[5];
