@@ -2,15 +2,15 @@
 -- whether their distance is within the radius.
 use Rattle.std.specs.Prelude.{ℕ, Bool, true, false, if◌then◌else◌}
 use Rattle.pivot_map.specs.declared.verdict.PairTest.{PairTest}
-use Rattle.pivot_map.specs.declared.verdict.PairTest.TheVariants as told
+use Rattle.pivot_map.specs.declared.verdict.PairTest.TheVariants as test
 use Rattle.query_pass.specs.declared.verdict.Verdict.{Verdict}
 use Rattle.query_pass.specs.declared.verdict.Verdict.TheVariants.{Apart, Sure, Measured}
 
 -- the verdict, by what the vectors tell and whether the distance is within the radius
 abbrev pub verdict_of : PairTest → Bool → Verdict
-verdict_of told.Apart within = Apart
-verdict_of told.Sure within = Sure
-verdict_of told.Open within = Measured within
+verdict_of test.Apart within = Apart
+verdict_of test.Sure within = Sure
+verdict_of test.Open within = Measured within
 
 -- the objects are within the radius of each other
 abbrev pub is_within : Verdict → Bool

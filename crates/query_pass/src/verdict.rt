@@ -44,27 +44,27 @@ impl Verdict {
     }
 }
 
-/// The verdict on two objects and the radius `r`, by what their vectors told.
+/// The verdict on two objects and the radius `r`, by what their vectors test.
 ///
 /// It measures the two if that is [`PairTest::Open`], once. Otherwise it looks at neither, and the two
 /// may be anything: a caller that would have to fetch them first does so only for an open pair. It takes
 /// no memory.
 pub fn judge_by<R: Ruler>(
     ruler: &mut R,
-    told: PairTest,
+    test: PairTest,
     object: &[u8],
     other: &[u8],
     r: u32,
 ) -> Verdict
-    requires first { IsTrue (is_open_test told) → R.admitted (R.kind ruler.old) object.now }
-    requires second { IsTrue (is_open_test told) → R.admitted (R.kind ruler.old) other.now }
+    requires first { IsTrue (is_open_test test) → R.admitted (R.kind ruler.old) object.now }
+    requires second { IsTrue (is_open_test test) → R.admitted (R.kind ruler.old) other.now }
     requires room { R.count ruler.old < 2 ^ 64 - 1 }
-    ensures verdict { result ≡ verdict_of told (nat_le (R.dist (R.kind ruler.old) object.now other.now) r) }
+    ensures verdict { result ≡ verdict_of test (nat_le (R.dist (R.kind ruler.old) object.now other.now) r) }
     ensures count { R.count ruler.new ≡ R.count ruler.old + one_if (was_measured result) }
     ensures log { Grew (R.log ruler.old) (R.log ruler.new) (if was_measured result then (object.now, other.now) ∷ [] else []) }
     ensures kind { R.kind ruler.new ≡ R.kind ruler.old }
 {
-    match told {
+    match test {
         PairTest::Apart => Verdict::Apart,
         PairTest::Sure => Verdict::Sure,
         PairTest::Open => Verdict::Measured(ruler.measure(object, other) <= r),

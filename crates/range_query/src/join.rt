@@ -87,10 +87,10 @@ fn pair_up<R: Ruler>(
 {
     for other in others {
         let (first, second) = in_order(row, other, same);
-        let told = test_pair(&first.vect, &second.vect, r);
+        let test = test_pair(&first.vect, &second.vect, r);
         let verdict = judge_by(
             ruler,
-            told,
+            test,
             first.object.as_slice(),
             second.object.as_slice(),
             r,

@@ -39,8 +39,8 @@ pub fn range_rows<R: Ruler>(
     let asked = map_object(ruler, pivots, q);
     let mut found = Found::new(alloc);
     for row in rows {
-        let told = test_query(&asked, &row.vect, r);
-        let verdict = judge_by(ruler, told, q, row.object.as_slice(), r);
+        let test = test_query(&asked, &row.vect, r);
+        let verdict = judge_by(ruler, test, q, row.object.as_slice(), r);
         found.note(row.id, verdict)?;
     }
     arrange_ids(&mut found.kept);

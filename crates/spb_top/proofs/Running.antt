@@ -223,12 +223,12 @@ stopped_text edge.Memory first script written left' old new behind unread before
 
 stopped_cause : (e : EdgeError) (o : Outside) (between total : ℕ) (unread : List ℕ) → o.source.before ≤ between → o.sink.before ≤ o.sink.now → o.disk.before ≤ o.disk.now
     → reads.HasCause (Err e) between o.source.now total (length unread)
-    → ((script : List ℕ) → o.told ≡ Some script → (left : List ℕ) × (total + length left ≡ length unread + length script) × (length unread ≤ length left))
+    → ((script : List ℕ) → o.input ≡ Some script → (left : List ℕ) × (total + length left ≡ length unread + length script) × (length unread ≤ length left))
     → HasCause (stopped_by e) o
 stopped_cause edge.ReadFault o between total unread grew sink disk cause count =
     (record { source = omega (arith, grew, cause.0); sink = sink; disk = disk }, Rose-later o.source.before between o.source.now grew cause.1)
 stopped_cause edge.InputLimit o between total unread grew sink disk cause count =
-    (record { source = omega (arith, grew, cause.0); sink = sink; disk = disk }, IfSome-from o.told (λ script is. let c = count script is in omega (arith, cause.1, cause.2, c.1, c.2)))
+    (record { source = omega (arith, grew, cause.0); sink = sink; disk = disk }, IfSome-from o.input (λ script is. let c = count script is in omega (arith, cause.1, cause.2, c.1, c.2)))
 stopped_cause edge.Memory o between total unread grew sink disk cause count = record { source = omega (arith, grew, cause.0); sink = sink; disk = disk }
 
 none_fell_beside : (o : Outside) (counted : ℕ) → NoneFell o → NoneFell (record o { disk = record { before = counted; now = counted } })
@@ -244,7 +244,7 @@ cause_beside WriteFault o counted (fell, rose) = (none_fell_beside o counted fel
 cause_beside InputLimit o counted (fell, past) = (none_fell_beside o counted fell, past)
 
 -- where the words were in the grammar, no fault was counted and the input was within the limit, no other cause is left
-pub completed : (status : Status) (o : Outside) → (status ≡ Usage → ⊥) → HasCause status o → (script : List ℕ) → o.told ≡ Some script → length script ≤ 2 ^ 30 → NoneRose o → IsDoneOrNoMemory status
+pub completed : (status : Status) (o : Outside) → (status ≡ Usage → ⊥) → HasCause status o → (script : List ℕ) → o.input ≡ Some script → length script ≤ 2 ^ 30 → NoneRose o → IsDoneOrNoMemory status
 completed Done o not_usage cause script told within none = tt
 completed Usage o not_usage cause script told within none = absurd (not_usage refl)
 completed NoMemory o not_usage cause script told within none = tt

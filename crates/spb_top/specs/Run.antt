@@ -54,7 +54,7 @@ pub record Outside : Type 0 where
   pub source : Faults
   pub sink : Faults
   pub disk : Faults
-  pub told : Option (List ℕ)
+  pub input : Option (List ℕ)
 
 -- the same, by what a source, a sink and a disk were before the run and are now
 abbrev pub outside_of : {S K D : Type 0} → (S → Option (List ℕ)) → (S → ℕ) → (K → ℕ) → (D → ℕ) → S → S → K → K → D → D → Outside
@@ -62,7 +62,7 @@ outside_of left source_faults sink_faults disk_faults source source' sink sink' 
   source = record { before = source_faults source; now = source_faults source' };
   sink = record { before = sink_faults sink; now = sink_faults sink' };
   disk = record { before = disk_faults disk; now = disk_faults disk' };
-  told = left source;
+  input = left source;
 }
 
 -- no count of faults fell
@@ -78,12 +78,12 @@ pub record NoneRose (outside : Outside) : Type 0 where
 
 -- why the run ended so
 abbrev pub HasCause : Status → Outside → Type 0
-HasCause Done outside = NoneFell outside × IfSome outside.told (λ bytes. length bytes ≤ 2 ^ 30)
+HasCause Done outside = NoneFell outside × IfSome outside.input (λ bytes. length bytes ≤ 2 ^ 30)
 HasCause Usage outside = NoneFell outside
 HasCause NoMemory outside = NoneFell outside
 HasCause ReadFault outside = NoneFell outside × Rose outside.source.before outside.source.now
 HasCause WriteFault outside = NoneFell outside × Rose outside.sink.before outside.sink.now
-HasCause InputLimit outside = NoneFell outside × IfSome outside.told (λ bytes. 2 ^ 30 < length bytes)
+HasCause InputLimit outside = NoneFell outside × IfSome outside.input (λ bytes. 2 ^ 30 < length bytes)
 
 -- the work was done, or memory ran out
 abbrev pub IsDoneOrNoMemory : Status → Type 0
@@ -107,5 +107,5 @@ Asks asked status = (status ≡ Usage) ↔ (asked ≡ None)
 -- the words asked for a store in memory, neither the source nor the sink counted a fault, and the input was told and
 -- within the limit: then the work was done, or memory ran out
 abbrev pub Completes : Status → Option MemorySetup → Outside → Type 0
-Completes status asked outside = (setup : MemorySetup) → asked ≡ Some setup → (script : List ℕ) → outside.told ≡ Some script → length script ≤ 2 ^ 30
+Completes status asked outside = (setup : MemorySetup) → asked ≡ Some setup → (script : List ℕ) → outside.input ≡ Some script → length script ≤ 2 ^ 30
     → NoneRose outside → IsDoneOrNoMemory status
