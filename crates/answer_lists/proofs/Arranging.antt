@@ -7,7 +7,7 @@ use Rattle.std.specs.Ordering.{is_lt, nat_cmp, ordering_then}
 use Rattle.std.specs.declared.cmp.Ordering.TheVariants.{Less, Equal, Greater}
 use Rattle.std.proofs.lemmas.List.Sums.{sum_by-cons}
 use Rattle.std.proofs.lemmas.Bool.Decides.{nat_tests}
-use Rattle.answer_lists.specs.Order.{goes_before, arranged}
+use Rattle.answer_lists.specs.Order.{goes_before, sorted_by}
 use Rattle.answer_lists.specs.OrderLaws as laws
 pub use Rattle.answer_lists.specs.OrderLaws.{Pair, goes_before-is}
 
@@ -21,17 +21,17 @@ is_lt-number false false = refl
 nat_lt-is : (a b : ℕ) → is_lt (nat_cmp a b) ≡ nat_lt a b
 nat_lt-is a b = is_lt-number (nat_lt a b) (a == b)
 
-pub ids-from_sort : (xs ys : List ℕ) → IsPermutation xs ys → IsSorted nat_cmp ys → ys ≡ arranged nat_lt xs
+pub ids-from_sort : (xs ys : List ℕ) → IsPermutation xs ys → IsSorted nat_cmp ys → ys ≡ sorted_by nat_lt xs
 ids-from_sort xs ys moved sorted =
     laws.arranged-from_sort nat_lt laws.nat_order xs ys moved (λ k d low inside. sym (nat_lt-is (get_or ys (k + 1) d) (get_or ys k d)) ∙ sorted k d low inside)
 
 -- ---- ranks
 
-pub arranged-from_sort : (xs ys : List Pair) → IsPermutation xs ys → IsSorted (λ (a b : Pair). ordering_then (nat_cmp a.0 b.0) (nat_cmp a.1 b.1)) ys → ys ≡ arranged goes_before xs
-arranged-from_sort xs ys moved sorted = laws.arranged-from_sort goes_before laws.pair_order xs ys moved sorted
+pub sorted_by-from_sort : (xs ys : List Pair) → IsPermutation xs ys → IsSorted (λ (a b : Pair). ordering_then (nat_cmp a.0 b.0) (nat_cmp a.1 b.1)) ys → ys ≡ sorted_by goes_before xs
+sorted_by-from_sort xs ys moved sorted = laws.arranged-from_sort goes_before laws.pair_order xs ys moved sorted
 
 abbrev pub InOrder : List Pair → Type 0
-InOrder xs = laws.InOrder goes_before xs
+InOrder xs = laws.IsInOrder goes_before xs
 
 abbrev pub times : Pair → List Pair → ℕ
 times p xs = count_by (λ q. (p.0 == q.0) && (p.1 == q.1)) xs
@@ -61,11 +61,11 @@ counted p q h (z ∷ zs) =
 pub one_list : (xs ys : List Pair) → InOrder xs → InOrder ys → ((p : Pair) → times p xs ≡ times p ys) → xs ≡ ys
 one_list xs ys a b equal = laws.one_list goes_before laws.pair_order xs ys a b (λ p. counted _ _ (ties-is p) xs ∙ equal p ∙ sym (counted _ _ (ties-is p) ys))
 
-pub in_order-arranged : (xs : List Pair) → InOrder (arranged goes_before xs)
-in_order-arranged xs = laws.in_order-arranged goes_before (laws.weak goes_before laws.pair_order) xs
+pub in_order-sorted_by : (xs : List Pair) → InOrder (sorted_by goes_before xs)
+in_order-sorted_by xs = laws.in_order-arranged goes_before (laws.weak goes_before laws.pair_order) xs
 
-pub all-arranged : (P : Pair → Type 0) (xs : List Pair) → AllByRecursion P xs → AllByRecursion P (arranged goes_before xs)
-all-arranged P xs all = laws.all-arranged goes_before P xs all
+pub all-sorted_by : (P : Pair → Type 0) (xs : List Pair) → AllByRecursion P xs → AllByRecursion P (sorted_by goes_before xs)
+all-sorted_by P xs all = laws.all-arranged goes_before P xs all
 
-pub times-arranged : (p : Pair) (xs : List Pair) → times p (arranged goes_before xs) ≡ times p xs
-times-arranged p xs = laws.arranged-count goes_before (λ q. (p.0 == q.0) && (p.1 == q.1)) xs
+pub times-sorted_by : (p : Pair) (xs : List Pair) → times p (sorted_by goes_before xs) ≡ times p xs
+times-sorted_by p xs = laws.arranged-count goes_before (λ q. (p.0 == q.0) && (p.1 == q.1)) xs

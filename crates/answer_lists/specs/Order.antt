@@ -7,11 +7,11 @@ abbrev pub goes_before : ℕ × ℕ → ℕ × ℕ → Bool
 goes_before a b = is_lt (ordering_then (nat_cmp a.0 b.0) (nat_cmp a.1 b.1))
 
 -- the list with the item in its place: behind all that go before it, and before the others
-abbrev pub placed : {A : Type 0} → (A → A → Bool) → A → List A → List A
-placed before x [] = x ∷ []
-placed before x (y ∷ ys) = if before y x then y ∷ placed before x ys else x ∷ y ∷ ys
+abbrev pub with_inserted : {A : Type 0} → (A → A → Bool) → A → List A → List A
+with_inserted before x [] = x ∷ []
+with_inserted before x (y ∷ ys) = if before y x then y ∷ with_inserted before x ys else x ∷ y ∷ ys
 
 -- the items in order
-unfoldable pub arranged : {A : Type 0} → (A → A → Bool) → List A → List A
-arranged before [] = []
-arranged before (x ∷ xs) = placed before x (arranged before xs)
+unfoldable pub sorted_by : {A : Type 0} → (A → A → Bool) → List A → List A
+sorted_by before [] = []
+sorted_by before (x ∷ xs) = with_inserted before x (sorted_by before xs)

@@ -1,6 +1,6 @@
 //! Rows of pairs, and the order of rows.
 ghost use Rattle.std.specs.Prelude.{◌≡◌, nat_lt};
-ghost use Rattle.answer_lists.specs.Order.{goes_before, arranged};
+ghost use Rattle.answer_lists.specs.Order.{goes_before, sorted_by};
 
 use spb_edge::Seq;
 
@@ -13,7 +13,7 @@ pub type Pairs = Seq<(u32, u32)>;
 /// Puts the ids in order, the least first. An id that stands there twice stays there twice. It takes no
 /// memory, and time as a sort does.
 pub fn arrange_ids(ids: &mut Vec<u32>)
-    ensures { ids.new.items ≡ arranged nat_lt ids.old.items }
+    ensures { ids.new.items ≡ sorted_by nat_lt ids.old.items }
 {
     ids.sort_unstable();
 }
@@ -21,7 +21,7 @@ pub fn arrange_ids(ids: &mut Vec<u32>)
 /// Puts the pairs in order, by the first part and then by the second. It takes no memory, and time as a
 /// sort does.
 pub fn arrange(pairs: &mut Vec<(u32, u32)>)
-    ensures { pairs.new.items ≡ arranged goes_before pairs.old.items }
+    ensures { pairs.new.items ≡ sorted_by goes_before pairs.old.items }
 {
     pairs.sort_unstable();
 }

@@ -17,7 +17,7 @@ use Rattle.spb_defs.specs.declared.Command.{Command}
 use Rattle.spb_defs.specs.declared.What.TheVariants as what
 use Rattle.spb_defs.specs.Grammar.{command_in, command_of}
 use Rattle.cmd_grammar.specs.declared.lines.LineError.{LineError}
-use Rattle.cmd_grammar.specs.ReadsCommand.{Gives}
+use Rattle.cmd_grammar.specs.ReadsCommand.{ReadsCommand}
 
 command_in-other : (space : Space) (words : List (List ℕ)) → (length words ≡ 2 → ⊥) → (length words ≡ 3 → ⊥) → (length words ≡ 4 → ⊥) → command_in space words ≡ Err what.Command
 command_in-other space [] two three four = refl
@@ -31,9 +31,9 @@ pub command_of-other : (space : Space) (line : List ℕ) → (length (slice_spli
 unfolding command_of
 command_of-other space line two three four = command_in-other space (slice_split (λ b. b == 32) line) two three four
 
-pub command_of-words : (space : Space) (line : List ℕ) (words : List (List ℕ)) (answer : Result Command LineError) → slice_split (λ b. b == 32) line ≡ words → Gives answer (command_in space words) → Gives answer (command_of space line)
+pub command_of-words : (space : Space) (line : List ℕ) (words : List (List ℕ)) (answer : Result Command LineError) → slice_split (λ b. b == 32) line ≡ words → ReadsCommand answer (command_in space words) → ReadsCommand answer (command_of space line)
 unfolding command_of
-command_of-words space line words answer e h = subst (λ (ws : List (List ℕ)). Gives answer (command_in space ws)) (sym e) h
+command_of-words space line words answer e h = subst (λ (ws : List (List ℕ)). ReadsCommand answer (command_in space ws)) (sym e) h
 
 -- how many words there are before a word that has none behind it
 pub length-word : (line word rest : List ℕ) → slice_split (λ x. x == 32) line ≡ word ∷ slice_split (λ x. x == 32) rest → length (slice_split (λ x. x == 32) line) ≡ length (slice_split (λ x. x == 32) rest) + 1

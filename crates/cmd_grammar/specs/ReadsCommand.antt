@@ -5,7 +5,7 @@ use Rattle.cmd_grammar.specs.declared.lines.LineError.{LineError}
 use Rattle.cmd_grammar.specs.declared.lines.LineError.TheVariants as errors
 
 -- The answer is what the definition reads, or what fails first, unless memory ran out.
-abbrev pub Gives : {A : Type 0} → Result A LineError → Result A What → Type 0
-Gives (Ok x) read = read ≡ Ok x
-Gives (Err (errors.Bad failed)) read = read ≡ Err failed
-Gives (Err errors.Memory) read = Unit {0}
+abbrev pub ReadsCommand : {A : Type 0} → Result A LineError → Result A What → Type 0
+ReadsCommand (Ok x) read = read ≡ Ok x
+ReadsCommand (Err (errors.Bad failed)) read = read ≡ Err failed
+ReadsCommand (Err errors.Memory) read = Unit {0}

@@ -4,10 +4,10 @@ ghost use Rattle.metrics_builtin.specs.declared.Space.{Space};
 ghost use Rattle.metrics_builtin.specs.Space.{fits, IsValid};
 ghost use Rattle.spb_defs.specs.Numbers.{number_within};
 ghost use Rattle.std.specs.Option.{ok_or};
-ghost use Rattle.spb_defs.specs.CommandText.{IsProper};
+ghost use Rattle.spb_defs.specs.CommandText.{IsWellFormed};
 ghost use Rattle.spb_defs.specs.Grammar.{collection_in, id_in, radius_in, ranks_in, object_in, sample_in, add_in, drop_in, get_in, count_in, range_in, near_in, join_in, command_in, command_of};
 ghost use Rattle.cmd_grammar.specs.LineWords.{AreWords};
-ghost use Rattle.cmd_grammar.specs.ReadsCommand.{Gives};
+ghost use Rattle.cmd_grammar.specs.ReadsCommand.{ReadsCommand};
 
 use metrics_builtin::Space;
 use object_text::{TextError, cut, number, read_object};
@@ -38,8 +38,8 @@ pub enum LineError {
 /// runs out.
 pub fn read_command(alloc: Global, space: &Space, line: &[u8]) -> Result<Command, LineError>
     requires { IsTrue (fits space.now) }
-    ensures exact { Gives result (command_of space.now line.now) }
-    ensures proper { IfOk result (λ command. IsProper space.now command) }
+    ensures exact { ReadsCommand result (command_of space.now line.now) }
+    ensures proper { IfOk result (λ command. IsWellFormed space.now command) }
 {
     match words_of(line) {
         Words::Two { name, first } => command_of_two(alloc, space, name, first),
@@ -66,8 +66,8 @@ fn command_of_two(
     first: &[u8],
 ) -> Result<Command, LineError>
     requires { IsTrue (fits space.now) }
-    ensures exact { Gives result (command_in space.now (name.now ∷ first.now ∷ [])) }
-    ensures proper { IfOk result (λ command. IsProper space.now command) }
+    ensures exact { ReadsCommand result (command_in space.now (name.now ∷ first.now ∷ [])) }
+    ensures proper { IfOk result (λ command. IsWellFormed space.now command) }
 {
     if name == b"sample".as_slice() {
         return sample(alloc, space, first);
@@ -80,8 +80,8 @@ fn command_of_two(
 
 /// The command that three words are.
 fn command_of_three(name: &[u8], first: &[u8], second: &[u8]) -> Result<Command, LineError>
-    ensures exact { (space : Space) → Gives result (command_in space (name.now ∷ first.now ∷ second.now ∷ [])) }
-    ensures proper { (space : Space) → IfOk result (λ command. IsProper space command) }
+    ensures exact { (space : Space) → ReadsCommand result (command_in space (name.now ∷ first.now ∷ second.now ∷ [])) }
+    ensures proper { (space : Space) → IfOk result (λ command. IsWellFormed space command) }
 {
     if name == b"drop".as_slice() {
         return discard(first, second);
@@ -102,8 +102,8 @@ fn command_of_four(
     third: &[u8],
 ) -> Result<Command, LineError>
     requires { IsTrue (fits space.now) }
-    ensures exact { Gives result (command_in space.now (name.now ∷ first.now ∷ second.now ∷ third.now ∷ [])) }
-    ensures proper { IfOk result (λ command. IsProper space.now command) }
+    ensures exact { ReadsCommand result (command_in space.now (name.now ∷ first.now ∷ second.now ∷ third.now ∷ [])) }
+    ensures proper { IfOk result (λ command. IsWellFormed space.now command) }
 {
     if name == b"add".as_slice() {
         return add(alloc, space, first, second, third);
@@ -124,8 +124,8 @@ fn command_of_four(
 #[tactic(auto, unfolding(spb_defs::specs::Grammar::sample_in))]
 fn sample(alloc: Global, space: &Space, object: &[u8]) -> Result<Command, LineError>
     requires { IsTrue (fits space.now) }
-    ensures exact { Gives result (sample_in space.now object.now) }
-    ensures proper { IfOk result (λ command. IsProper space.now command) }
+    ensures exact { ReadsCommand result (sample_in space.now object.now) }
+    ensures proper { IfOk result (λ command. IsWellFormed space.now command) }
 {
     let object = object_or(alloc, space, object)?;
     Ok(Command::Sample { object })
@@ -134,8 +134,8 @@ fn sample(alloc: Global, space: &Space, object: &[u8]) -> Result<Command, LineEr
 /// The removal that the words ask for.
 #[tactic(auto, unfolding(spb_defs::specs::Grammar::drop_in))]
 fn discard(collection: &[u8], id: &[u8]) -> Result<Command, LineError>
-    ensures exact { Gives result (drop_in collection.now id.now) }
-    ensures proper { (space : Space) → IfOk result (λ command. IsProper space command) }
+    ensures exact { ReadsCommand result (drop_in collection.now id.now) }
+    ensures proper { (space : Space) → IfOk result (λ command. IsWellFormed space command) }
 {
     let c = collection_or(collection)?;
     let id = id_or(id)?;
@@ -145,8 +145,8 @@ fn discard(collection: &[u8], id: &[u8]) -> Result<Command, LineError>
 /// The look-up that the words ask for.
 #[tactic(auto, unfolding(spb_defs::specs::Grammar::get_in))]
 fn get(collection: &[u8], id: &[u8]) -> Result<Command, LineError>
-    ensures exact { Gives result (get_in collection.now id.now) }
-    ensures proper { (space : Space) → IfOk result (λ command. IsProper space command) }
+    ensures exact { ReadsCommand result (get_in collection.now id.now) }
+    ensures proper { (space : Space) → IfOk result (λ command. IsWellFormed space command) }
 {
     let c = collection_or(collection)?;
     let id = id_or(id)?;
@@ -156,8 +156,8 @@ fn get(collection: &[u8], id: &[u8]) -> Result<Command, LineError>
 /// The count that the word asks for.
 #[tactic(auto, unfolding(spb_defs::specs::Grammar::count_in))]
 fn count(collection: &[u8]) -> Result<Command, LineError>
-    ensures exact { Gives result (count_in collection.now) }
-    ensures proper { (space : Space) → IfOk result (λ command. IsProper space command) }
+    ensures exact { ReadsCommand result (count_in collection.now) }
+    ensures proper { (space : Space) → IfOk result (λ command. IsWellFormed space command) }
 {
     let c = collection_or(collection)?;
     Ok(Command::Count { c })
@@ -173,8 +173,8 @@ fn add(
     object: &[u8],
 ) -> Result<Command, LineError>
     requires { IsTrue (fits space.now) }
-    ensures exact { Gives result (add_in space.now collection.now id.now object.now) }
-    ensures proper { IfOk result (λ command. IsProper space.now command) }
+    ensures exact { ReadsCommand result (add_in space.now collection.now id.now object.now) }
+    ensures proper { IfOk result (λ command. IsWellFormed space.now command) }
 {
     let c = collection_or(collection)?;
     let id = id_or(id)?;
@@ -192,8 +192,8 @@ fn range(
     query: &[u8],
 ) -> Result<Command, LineError>
     requires { IsTrue (fits space.now) }
-    ensures exact { Gives result (range_in space.now collection.now radius.now query.now) }
-    ensures proper { IfOk result (λ command. IsProper space.now command) }
+    ensures exact { ReadsCommand result (range_in space.now collection.now radius.now query.now) }
+    ensures proper { IfOk result (λ command. IsWellFormed space.now command) }
 {
     let c = collection_or(collection)?;
     let r = radius_or(radius)?;
@@ -211,8 +211,8 @@ fn near(
     query: &[u8],
 ) -> Result<Command, LineError>
     requires { IsTrue (fits space.now) }
-    ensures exact { Gives result (near_in space.now collection.now many.now query.now) }
-    ensures proper { IfOk result (λ command. IsProper space.now command) }
+    ensures exact { ReadsCommand result (near_in space.now collection.now many.now query.now) }
+    ensures proper { IfOk result (λ command. IsWellFormed space.now command) }
 {
     let c = collection_or(collection)?;
     let k = ranks_or(many)?;
@@ -223,8 +223,8 @@ fn near(
 /// The join that the words ask for.
 #[tactic(auto, unfolding(spb_defs::specs::Grammar::join_in))]
 fn join(left: &[u8], right: &[u8], radius: &[u8]) -> Result<Command, LineError>
-    ensures exact { Gives result (join_in left.now right.now radius.now) }
-    ensures proper { (space : Space) → IfOk result (λ command. IsProper space command) }
+    ensures exact { ReadsCommand result (join_in left.now right.now radius.now) }
+    ensures proper { (space : Space) → IfOk result (λ command. IsWellFormed space command) }
 {
     let c = collection_or(left)?;
     let d = collection_or(right)?;
@@ -234,7 +234,7 @@ fn join(left: &[u8], right: &[u8], radius: &[u8]) -> Result<Command, LineError>
 
 /// The collection that the word names, or what failed.
 fn collection_or(word: &[u8]) -> Result<u8, LineError>
-    ensures exact { Gives result (collection_in word.now) }
+    ensures exact { ReadsCommand result (collection_in word.now) }
     ensures small { IfOk result (λ c. c < 4) }
 {
     let c = number_or(What::Collection, word, 3)?;
@@ -243,7 +243,7 @@ fn collection_or(word: &[u8]) -> Result<u8, LineError>
 
 /// The id that the word spells, or what failed.
 fn id_or(word: &[u8]) -> Result<u32, LineError>
-    ensures { Gives result (id_in word.now) }
+    ensures { ReadsCommand result (id_in word.now) }
 {
     let id = number_or(What::Id, word, u64::from(u32::MAX))?;
     Ok(id as u32)
@@ -251,7 +251,7 @@ fn id_or(word: &[u8]) -> Result<u32, LineError>
 
 /// The radius that the word spells, or what failed.
 fn radius_or(word: &[u8]) -> Result<u32, LineError>
-    ensures { Gives result (radius_in word.now) }
+    ensures { ReadsCommand result (radius_in word.now) }
 {
     let r = number_or(What::Number, word, u64::from(u32::MAX))?;
     Ok(r as u32)
@@ -259,7 +259,7 @@ fn radius_or(word: &[u8]) -> Result<u32, LineError>
 
 /// The number of ranks that the word spells, or what failed.
 fn ranks_or(word: &[u8]) -> Result<u32, LineError>
-    ensures exact { Gives result (ranks_in word.now) }
+    ensures exact { ReadsCommand result (ranks_in word.now) }
     ensures some { IfOk result (λ k. 1 ≤ k) }
     ensures few { IfOk result (λ k. k ≤ 65536) }
 {
@@ -272,7 +272,7 @@ fn ranks_or(word: &[u8]) -> Result<u32, LineError>
 
 /// The number that the word spells, where it is at most `most`, or what failed.
 fn number_or(failed: What, word: &[u8], most: u64) -> Result<u64, LineError>
-    ensures exact { Gives result (ok_or (number_within most word.now) failed) }
+    ensures exact { ReadsCommand result (ok_or (number_within most word.now) failed) }
     ensures small { IfOk result (λ n. n ≤ most) }
 {
     match number(word, most) {
@@ -284,7 +284,7 @@ fn number_or(failed: What, word: &[u8], most: u64) -> Result<u64, LineError>
 /// The object whose text the word is, or what failed.
 fn object_or(alloc: Global, space: &Space, word: &[u8]) -> Result<Bytes, LineError>
     requires { IsTrue (fits space.now) }
-    ensures exact { Gives result (object_in space.now word.now) }
+    ensures exact { ReadsCommand result (object_in space.now word.now) }
     ensures valid { IfOk result (λ object. IsValid space.now object) }
 {
     match read_object(alloc, space, word) {

@@ -1,7 +1,7 @@
 ghost use Rattle.std.specs.Prelude.{◌≡◌, ◌≤◌, [], ◌∷◌, map, IfSome, IsTrue};
 ghost use Rattle.metrics_builtin.specs.Space.{fits};
 ghost use Rattle.std.specs.String.{string_bytes};
-ghost use Rattle.spb_defs.specs.Words.{fitting, parameter_in, space_in, setup_in, without_pivots, with_pivots, asked_of, memory_asked};
+ghost use Rattle.spb_defs.specs.Words.{checked_space, parameter_in, space_in, setup_in, without_pivots, with_pivots, asked_of, memory_asked};
 
 use metrics_builtin::Space;
 use object_text::number;
@@ -151,7 +151,7 @@ fn with_two(kind: &[u8], first: &[u8], second: &[u8]) -> Option<Space>
 
 /// The space, where its numbers are in range.
 fn fitting(space: Space) -> Option<Space>
-    ensures exact { result ≡ fitting space }
+    ensures exact { result ≡ checked_space space }
     ensures fits { IfSome result (λ space. IsTrue (fits space)) }
 {
     if space.fits() { Some(space) } else { None }

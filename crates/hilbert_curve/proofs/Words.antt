@@ -10,7 +10,7 @@ use Rattle.std.proofs.Math.Pow.{pow_mono}
 use Rattle.std.proofs.lemmas.Nat.{pow_pos, mod_below, mul-le, and_mask, shl_whole}
 use Rattle.hilbert_curve.specs.Axes.{holds_below, below_holds, for_axes}
 use Rattle.hilbert_curve.specs.Tables.{ungray, trailing_ones}
-use Rattle.hilbert_curve.specs.Curve.{turned, lanes}
+use Rattle.hilbert_curve.specs.Curve.{rotated, lanes}
 use Rattle.hilbert_curve.specs.Lanes.{lanes-lt}
 use Rattle.hilbert_curve.specs.declared.lanes.TheConstants.{ONES, FACTORS}
 
@@ -22,17 +22,17 @@ abbrev pub turned_word : ℕ → ℕ → ℕ → ℕ
 turned_word n t x = bit_and (bit_or (x * 2 ^ t % 65536) (x / 2 ^ (n - t))) (1 * 2 ^ n % 65536 - 1)
 
 abbrev turns : ℕ → Bool
-turns n = holds_below (λ t. holds_below (λ x. turned_word n t x == turned n x t) (2 ^ n)) (suc n)
+turns n = holds_below (λ t. holds_below (λ x. turned_word n t x == rotated n x t) (2 ^ n)) (suc n)
 
 all_turn : (n : ℕ) → 0 < n → n ≤ 8 → turns n ≡ true
-unfolding turned
+unfolding rotated
 all_turn = for_axes (λ n. turns n ≡ true) refl refl refl refl refl refl refl refl
 
-pub turned_word_is : (n x t : ℕ) → 0 < n → n ≤ 8 → t ≤ n → x < 2 ^ n → turned_word n t x ≡ turned n x t
+pub turned_word_is : (n x t : ℕ) → 0 < n → n ≤ 8 → t ≤ n → x < 2 ^ n → turned_word n t x ≡ rotated n x t
 turned_word_is n x t some few h l =
-    eq_from (turned_word n t x) (turned n x t)
-    (below_holds (λ y. turned_word n t y == turned n y t) (2 ^ n) x
-    (below_holds (λ u. holds_below (λ y. turned_word n u y == turned n y u) (2 ^ n)) (suc n) t (all_turn n some few) (omega arith)) l)
+    eq_from (turned_word n t x) (rotated n x t)
+    (below_holds (λ y. turned_word n t y == rotated n y t) (2 ^ n) x
+    (below_holds (λ u. holds_below (λ y. turned_word n u y == rotated n y u) (2 ^ n)) (suc n) t (all_turn n some few) (omega arith)) l)
 
 -- a number back from its Gray code, in three shifts
 abbrev pub ungray_word : ℕ → ℕ

@@ -5,17 +5,17 @@ use Rattle.std.specs.List.{range_with_len}
 use Rattle.hilbert_curve.specs.Tables.{gray, ungray, entry, direction}
 
 -- the n bits of x, turned left by t places: the highest come to the low end
-unfoldable pub turned : ℕ → ℕ → ℕ → ℕ
-turned n x t = x % 2 ^ (n - t % n) * 2 ^ (t % n) + x / 2 ^ (n - t % n)
+unfoldable pub rotated : ℕ → ℕ → ℕ → ℕ
+rotated n x t = x % 2 ^ (n - t % n) * 2 ^ (t % n) + x / 2 ^ (n - t % n)
 
 -- One step of the walk, from an entry e and a direction d, by the next group w of a key.
 -- the next bits of the cell, that of coordinate j at bit j
 unfoldable pub cell_bits : ℕ → ℕ → ℕ → ℕ → ℕ
-cell_bits n e d w = bit_xor (turned n (gray w) (d + 1)) e
+cell_bits n e d w = bit_xor (rotated n (gray w) (d + 1)) e
 
 -- the entry of the part that was stepped into
 unfoldable pub next_entry : ℕ → ℕ → ℕ → ℕ → ℕ
-next_entry n e d w = bit_xor e (turned n (entry w) (d + 1))
+next_entry n e d w = bit_xor e (rotated n (entry w) (d + 1))
 
 -- and its direction
 unfoldable pub next_direction : ℕ → ℕ → ℕ → ℕ
@@ -39,7 +39,7 @@ lanes s (suc n) f = f n * 2 ^ (s * n) + lanes s n f
 
 -- the group that steps to the bits x of a cell
 unfoldable pub group_of : ℕ → ℕ → ℕ → ℕ → ℕ
-group_of n e d x = ungray n (turned n (bit_xor x e) (n - (d + 1) % n))
+group_of n e d x = ungray n (rotated n (bit_xor x e) (n - (d + 1) % n))
 
 -- the group that gives bit b of the coordinates v
 abbrev pub group_at : ℕ → (ℕ → ℕ) → ℕ → ℕ → ℕ → ℕ

@@ -7,8 +7,8 @@ use Rattle.std.proofs.lemmas.Bool.Decides.{nat_tests}
 use Rattle.std.proofs.lemmas.Nat.{mul-le, mod-mul-add, same_from_place, pow_pos, pow_below, shr_split, shr_below, mod_below, xor_comm}
 use Rattle.std.proofs.lemmas.Nat.Bits.{bit_at-lt, bit_at_xor, bit_at-pow_same, bit_at-pow_other}
 use Rattle.hilbert_curve.specs.Tables.{gray, trailing_ones, entry, direction}
-use Rattle.hilbert_curve.specs.Curve.{turned, cell_bits, next_entry, next_direction, coordinate}
-use Rattle.hilbert_curve.specs.Rotation.{small_mod, small_div, turned-xor, turned-pow, bit_at-turned}
+use Rattle.hilbert_curve.specs.Curve.{rotated, cell_bits, next_entry, next_direction, coordinate}
+use Rattle.hilbert_curve.specs.Rotation.{small_mod, small_div, rotated-xor, rotated-pow, bit_at-rotated}
 use Rattle.hilbert_curve.specs.RowLaws.{IsInner, gray-lt, entry-lt, direction-lt}
 use Rattle.hilbert_curve.specs.WrittenRows.{row}
 use Rattle.hilbert_curve.specs.Lanes.{lane_room}
@@ -40,9 +40,9 @@ pub record Moves (n b e d k a : ℕ) (up : Bool) : Type 0 where
   pub along : MovesBy up (coordinate n a b e d k) (coordinate n a b e d (k + 1))
   pub others : (j : ℕ) → j ≢ a → coordinate n j b e d (k + 1) ≡ coordinate n j b e d k
 
-turned-zero : (n t : ℕ) → turned n 0 t ≡ 0
-unfolding turned
-turned-zero n t =
+rotated-zero : (n t : ℕ) → rotated n 0 t ≡ 0
+unfolding rotated
+rotated-zero n t =
     ap (λ a. a * 2 ^ (t % n) + 0 / 2 ^ (n - t % n)) (small_mod 0 (2 ^ (n - t % n)) (pow_pos (n - t % n)))
     ∙ ap (λ a. 0 * 2 ^ (t % n) + a) (small_div 0 (2 ^ (n - t % n)) (pow_pos (n - t % n)))
     ∙ omega arith
@@ -88,11 +88,11 @@ module _ (n : ℕ) (some : 0 < n) (few : n ≤ 8) where
   -- the first cell has the bits of the entry in every group
   cell_bits-zero : (e d : ℕ) → cell_bits n e d 0 ≡ e
   unfolding cell_bits
-  cell_bits-zero e d = ap (λ x. bit_xor x e) (turned-zero n (d + 1))
+  cell_bits-zero e d = ap (λ x. bit_xor x e) (rotated-zero n (d + 1))
 
   next_entry-zero : (e d : ℕ) → next_entry n e d 0 ≡ e
   unfolding next_entry
-  next_entry-zero e d = ap (bit_xor e) (turned-zero n (d + 1)) ∙ xor_zero_r e
+  next_entry-zero e d = ap (bit_xor e) (rotated-zero n (d + 1)) ∙ xor_zero_r e
 
   pub first_cell : (b e d j : ℕ) → coordinate n j b e d 0 + bit_at e j ≡ bit_at e j * 2 ^ b
   first_cell zero e d j = omega arith
@@ -109,15 +109,15 @@ module _ (n : ℕ) (some : 0 < n) (few : n ≤ 8) where
 
   -- where the curve leaves a part
   leaving : (e d w : ℕ) → e < 2 ^ n → w < 2 ^ n →
-      bit_xor (next_entry n e d w) (2 ^ next_direction n d w) ≡ bit_xor e (turned n (bit_xor (entry w) (2 ^ direction n w)) (d + 1))
+      bit_xor (next_entry n e d w) (2 ^ next_direction n d w) ≡ bit_xor e (rotated n (bit_xor (entry w) (2 ^ direction n w)) (d + 1))
   unfolding next_entry next_direction
   leaving e d w h l =
       let small : direction n w < n = direction-lt n w some in
       let place : (d + direction n w + 1) % n ≡ (direction n w + (d + 1)) % n = ap (λ k. k % n) (omega arith) in
-      xor_assoc e (turned n (entry w) (d + 1)) (2 ^ ((d + direction n w + 1) % n))
-      ∙ ap (λ k. bit_xor e (bit_xor (turned n (entry w) (d + 1)) (2 ^ k))) place
-      ∙ ap (λ y. bit_xor e (bit_xor (turned n (entry w) (d + 1)) y)) (sym (turned-pow n some (direction n w) (d + 1) small))
-      ∙ ap (bit_xor e) (sym (turned-xor n some (entry w) (2 ^ direction n w) (d + 1) (entry-lt n w l) (pow_below (direction n w) n small)))
+      xor_assoc e (rotated n (entry w) (d + 1)) (2 ^ ((d + direction n w + 1) % n))
+      ∙ ap (λ k. bit_xor e (bit_xor (rotated n (entry w) (d + 1)) (2 ^ k))) place
+      ∙ ap (λ y. bit_xor e (bit_xor (rotated n (entry w) (d + 1)) y)) (sym (rotated-pow n some (direction n w) (d + 1) small))
+      ∙ ap (bit_xor e) (sym (rotated-xor n some (entry w) (2 ^ direction n w) (d + 1) (entry-lt n w l) (pow_below (direction n w) n small)))
 
   -- from the last row it leaves where the whole is left
   last_place : (d : ℕ) → d < n → ((n - 1) + (d + 1)) % n ≡ d
@@ -125,19 +125,19 @@ module _ (n : ℕ) (some : 0 < n) (few : n ≤ 8) where
       let e : (n - 1) + (d + 1) ≡ 1 * n + d = omega arith in
       ap (λ k. k % n) e ∙ mod-mul-add 1 n d h
 
-  turned_last : (d : ℕ) → d < n → turned n (2 ^ (n - 1)) (d + 1) ≡ 2 ^ d
-  turned_last d h = turned-pow n some (n - 1) (d + 1) (omega arith) ∙ ap (λ k. 2 ^ k) (last_place d h)
+  turned_last : (d : ℕ) → d < n → rotated n (2 ^ (n - 1)) (d + 1) ≡ 2 ^ d
+  turned_last d h = rotated-pow n some (n - 1) (d + 1) (omega arith) ∙ ap (λ k. 2 ^ k) (last_place d h)
 
   cell_bits-last : (e d w : ℕ) → d < n → w < 2 ^ n → w + 1 ≡ 2 ^ n → cell_bits n e d w ≡ bit_xor e (2 ^ d)
   unfolding cell_bits
   cell_bits-last e d w h l i =
-      ap (λ g. bit_xor (turned n g (d + 1)) e) ((row n w some few l).last i).code
+      ap (λ g. bit_xor (rotated n g (d + 1)) e) ((row n w some few l).last i).code
       ∙ ap (λ g. bit_xor g e) (turned_last d h) ∙ xor_comm (2 ^ d) e
 
   leaving-last : (e d w : ℕ) → e < 2 ^ n → d < n → w < 2 ^ n → w + 1 ≡ 2 ^ n →
       bit_xor (next_entry n e d w) (2 ^ next_direction n d w) ≡ bit_xor e (2 ^ d)
   leaving-last e d w k h l i =
-      leaving e d w k l ∙ ap (λ g. bit_xor e (turned n g (d + 1))) ((row n w some few l).last i).leaves ∙ ap (bit_xor e) (turned_last d h)
+      leaving e d w k l ∙ ap (λ g. bit_xor e (rotated n g (d + 1))) ((row n w some few l).last i).leaves ∙ ap (bit_xor e) (turned_last d h)
 
   -- the last cell has the same bits in every group, those of the corner at which the curve leaves
   pub last_cell : (b e d k j : ℕ) → e < 2 ^ n → d < n → k + 1 ≡ 2 ^ (n * b) →
@@ -172,9 +172,9 @@ module _ (n : ℕ) (some : 0 < n) (few : n ≤ 8) where
     fact : IsInner n w
     fact = (row n w some few below).inner next
 
-    turned_step : turned n (2 ^ trailing_ones w) (d + 1) ≡ 2 ^ a
+    turned_step : rotated n (2 ^ trailing_ones w) (d + 1) ≡ 2 ^ a
     unfolding a
-    turned_step = turned-pow n some (trailing_ones w) (d + 1) fact.axis
+    turned_step = rotated-pow n some (trailing_ones w) (d + 1) fact.axis
 
     step_below : 2 ^ trailing_ones w < 2 ^ n
     step_below = pow_below (trailing_ones w) n fact.axis
@@ -188,12 +188,12 @@ module _ (n : ℕ) (some : 0 < n) (few : n ≤ 8) where
     next_bits : cell_bits n e d (w + 1) ≡ bit_xor (cell_bits n e d w) (2 ^ a)
     unfolding cell_bits
     next_bits =
-        ap (λ g. bit_xor (turned n g (d + 1)) e) next_code
-        ∙ ap (λ g. bit_xor g e) (turned-xor n some (gray w) (2 ^ trailing_ones w) (d + 1) (gray-lt n w below) step_below)
-        ∙ ap (λ g. bit_xor (bit_xor (turned n (gray w) (d + 1)) g) e) turned_step
-        ∙ xor_assoc (turned n (gray w) (d + 1)) (2 ^ a) e
-        ∙ ap (bit_xor (turned n (gray w) (d + 1))) (xor_comm (2 ^ a) e)
-        ∙ sym (xor_assoc (turned n (gray w) (d + 1)) e (2 ^ a))
+        ap (λ g. bit_xor (rotated n g (d + 1)) e) next_code
+        ∙ ap (λ g. bit_xor g e) (rotated-xor n some (gray w) (2 ^ trailing_ones w) (d + 1) (gray-lt n w below) step_below)
+        ∙ ap (λ g. bit_xor (bit_xor (rotated n (gray w) (d + 1)) g) e) turned_step
+        ∙ xor_assoc (rotated n (gray w) (d + 1)) (2 ^ a) e
+        ∙ ap (bit_xor (rotated n (gray w) (d + 1))) (xor_comm (2 ^ a) e)
+        ∙ sym (xor_assoc (rotated n (gray w) (d + 1)) e (2 ^ a))
 
     -- the corner at which this part is left
     corner : ℕ
@@ -202,7 +202,7 @@ module _ (n : ℕ) (some : 0 < n) (few : n ≤ 8) where
     exit-lt : bit_xor (entry w) (2 ^ direction n w) < 2 ^ n
     exit-lt = xor_lt n (entry w) (2 ^ direction n w) (entry-lt n w below) (pow_below (direction n w) n (direction-lt n w some))
 
-    corner_is : corner ≡ bit_xor e (turned n (bit_xor (entry w) (2 ^ direction n w)) (d + 1))
+    corner_is : corner ≡ bit_xor e (rotated n (bit_xor (entry w) (2 ^ direction n w)) (d + 1))
     unfolding corner
     corner_is = leaving e d w inside below
 
@@ -210,10 +210,10 @@ module _ (n : ℕ) (some : 0 < n) (few : n ≤ 8) where
     next_corner : next_entry n e d (w + 1) ≡ bit_xor corner (2 ^ a)
     unfolding next_entry
     next_corner =
-        ap (λ g. bit_xor e (turned n g (d + 1))) fact.enters
-        ∙ ap (bit_xor e) (turned-xor n some (bit_xor (entry w) (2 ^ direction n w)) (2 ^ trailing_ones w) (d + 1) exit-lt step_below)
-        ∙ ap (λ g. bit_xor e (bit_xor (turned n (bit_xor (entry w) (2 ^ direction n w)) (d + 1)) g)) turned_step
-        ∙ sym (xor_assoc e (turned n (bit_xor (entry w) (2 ^ direction n w)) (d + 1)) (2 ^ a))
+        ap (λ g. bit_xor e (rotated n g (d + 1))) fact.enters
+        ∙ ap (bit_xor e) (rotated-xor n some (bit_xor (entry w) (2 ^ direction n w)) (2 ^ trailing_ones w) (d + 1) exit-lt step_below)
+        ∙ ap (λ g. bit_xor e (bit_xor (rotated n (bit_xor (entry w) (2 ^ direction n w)) (d + 1)) g)) turned_step
+        ∙ sym (xor_assoc e (rotated n (bit_xor (entry w) (2 ^ direction n w)) (d + 1)) (2 ^ a))
         ∙ ap (λ g. bit_xor g (2 ^ a)) (sym corner_is)
 
     across : bit_at corner a + bit_at (cell_bits n e d w) a ≡ 1
@@ -221,10 +221,10 @@ module _ (n : ℕ) (some : 0 < n) (few : n ≤ 8) where
     across =
         parity (bit_at e a) (bit_at (bit_xor (entry w) (2 ^ direction n w)) (trailing_ones w)) (bit_at (gray w) (trailing_ones w)) (bit_at corner a) (bit_at (cell_bits n e d w) a)
         (bit_at-lt e a) fact.across
-        (ap (λ x. bit_at x a) corner_is ∙ bit_at_xor e (turned n (bit_xor (entry w) (2 ^ direction n w)) (d + 1)) a
-        ∙ ap (λ x. (bit_at e a + x) % 2) (bit_at-turned n some (bit_xor (entry w) (2 ^ direction n w)) (d + 1) (trailing_ones w) exit-lt fact.axis))
-        (bit_at_xor (turned n (gray w) (d + 1)) e a
-        ∙ ap (λ x. (x + bit_at e a) % 2) (bit_at-turned n some (gray w) (d + 1) (trailing_ones w) (gray-lt n w below) fact.axis))
+        (ap (λ x. bit_at x a) corner_is ∙ bit_at_xor e (rotated n (bit_xor (entry w) (2 ^ direction n w)) (d + 1)) a
+        ∙ ap (λ x. (bit_at e a + x) % 2) (bit_at-rotated n some (bit_xor (entry w) (2 ^ direction n w)) (d + 1) (trailing_ones w) exit-lt fact.axis))
+        (bit_at_xor (rotated n (gray w) (d + 1)) e a
+        ∙ ap (λ x. (x + bit_at e a) % 2) (bit_at-rotated n some (gray w) (d + 1) (trailing_ones w) (gray-lt n w below) fact.axis))
       where
         parity : (x y g c k : ℕ) → x < 2 → y + g ≡ 1 → c ≡ (x + y) % 2 → k ≡ (g + x) % 2 → c + k ≡ 1
         parity x y g c k h s i j = omega arith
@@ -287,7 +287,7 @@ module _ (n : ℕ) (some : 0 < n) (few : n ≤ 8) where
       }
 
 -- what a walk down the groups finds: nothing new at the last key, else the step
-pub record Finds (n b e d k : ℕ) (answer : Option (ℕ × Bool)) : Type 0 where
+pub record FindsStep (n b e d k : ℕ) (answer : Option (ℕ × Bool)) : Type 0 where
   pub before_last : k + 1 < 2 ^ (n * b)
   pub a : ℕ
   pub up : Bool
@@ -322,7 +322,7 @@ module _ (n : ℕ) (some : 0 < n) (few : n ≤ 8) where
       }
 
   pub finds : (b e d k : ℕ) (found : Option (ℕ × Bool)) → e < 2 ^ n → d < n → k < 2 ^ (n * b) →
-      ((k + 1 ≡ 2 ^ (n * b)) × (step_found n b e d k found ≡ found)) ⊎ Finds n b e d k (step_found n b e d k found)
+      ((k + 1 ≡ 2 ^ (n * b)) × (step_found n b e d k found ≡ found)) ⊎ FindsStep n b e d k (step_found n b e d k found)
   finds zero e d k found h l i =
       let z : n * 0 ≡ 0 = omega arith in
       let whole : 2 ^ (n * 0) ≡ 1 = ap (λ m. 2 ^ m) z in
@@ -352,7 +352,7 @@ module _ (n : ℕ) (some : 0 < n) (few : n ≤ 8) where
 
       at_last : (b e d k : ℕ) (found : Option (ℕ × Bool)) → e < 2 ^ n → d < n → k < 2 ^ (n * suc b) → k / 2 ^ (n * b) < 2 ^ n → k % 2 ^ (n * b) + 1 ≡ 2 ^ (n * b) →
           step_found n (suc b) e d k found ≡ (if k / 2 ^ (n * b) + 1 == 2 ^ n then found else Some (axis_of n d (k / 2 ^ (n * b)), goes_up n e d (k / 2 ^ (n * b)))) →
-          ((k + 1 ≡ 2 ^ (n * suc b)) × (step_found n (suc b) e d k found ≡ found)) ⊎ Finds n (suc b) e d k (step_found n (suc b) e d k found)
+          ((k + 1 ≡ 2 ^ (n * suc b)) × (step_found n (suc b) e d k found ≡ found)) ⊎ FindsStep n (suc b) e d k (step_found n (suc b) e d k found)
       at_last b e d k found h l i below full is =
           let w = k / 2 ^ (n * b) in
           let r = k % 2 ^ (n * b) in

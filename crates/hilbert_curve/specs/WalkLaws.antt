@@ -5,8 +5,8 @@ use Rattle.std.specs.Int.Bits.{bit_xor, xor_lt, xor_assoc, xor_self, xor_zero_r}
 use Rattle.std.proofs.lemmas.Nat.{pow_pos, shr_split, shr_below, shr_high, mod_low, mod_below, mod-pow-add, same_from_place}
 use Rattle.std.proofs.lemmas.Nat.Bits.{bit_at-lt}
 use Rattle.hilbert_curve.specs.Tables.{gray, ungray, entry, direction}
-use Rattle.hilbert_curve.specs.Curve.{turned, cell_bits, next_entry, next_direction, coordinate, lanes, group_of, group_at, key_from}
-use Rattle.hilbert_curve.specs.Rotation.{small_mod, turned-lt, turned_back, turned_forth}
+use Rattle.hilbert_curve.specs.Curve.{rotated, cell_bits, next_entry, next_direction, coordinate, lanes, group_of, group_at, key_from}
+use Rattle.hilbert_curve.specs.Rotation.{small_mod, rotated-lt, turned_back, turned_forth}
 use Rattle.hilbert_curve.specs.RowLaws.{gray-lt, entry-lt, ungray-lt}
 use Rattle.hilbert_curve.specs.WrittenRows.{row}
 use Rattle.hilbert_curve.specs.Lanes.{lanes_same, lane_room, lanes-lt, bit_at-lanes, lanes_of_bits}
@@ -50,35 +50,35 @@ same_parts x y b h =
 module _ (n : ℕ) (some : 0 < n) (few : n ≤ 8) where
   pub cell_bits-lt : (e d w : ℕ) → e < 2 ^ n → w < 2 ^ n → cell_bits n e d w < 2 ^ n
   unfolding cell_bits
-  cell_bits-lt e d w h l = xor_lt n (turned n (gray w) (d + 1)) e (turned-lt n some (gray w) (d + 1) (gray-lt n w l)) h
+  cell_bits-lt e d w h l = xor_lt n (rotated n (gray w) (d + 1)) e (rotated-lt n some (gray w) (d + 1) (gray-lt n w l)) h
 
   pub next_entry-lt : (e d w : ℕ) → e < 2 ^ n → w < 2 ^ n → next_entry n e d w < 2 ^ n
   unfolding next_entry
-  next_entry-lt e d w h l = xor_lt n e (turned n (entry w) (d + 1)) h (turned-lt n some (entry w) (d + 1) (entry-lt n w l))
+  next_entry-lt e d w h l = xor_lt n e (rotated n (entry w) (d + 1)) h (rotated-lt n some (entry w) (d + 1) (entry-lt n w l))
 
   pub next_direction-lt : (d w : ℕ) → next_direction n d w < n
   unfolding next_direction
   next_direction-lt d w = mod_below (d + direction n w + 1) n some
 
-  turned_off-lt : (e d x : ℕ) → e < 2 ^ n → x < 2 ^ n → turned n (bit_xor x e) (n - (d + 1) % n) < 2 ^ n
-  turned_off-lt e d x h l = turned-lt n some (bit_xor x e) (n - (d + 1) % n) (xor_lt n x e l h)
+  turned_off-lt : (e d x : ℕ) → e < 2 ^ n → x < 2 ^ n → rotated n (bit_xor x e) (n - (d + 1) % n) < 2 ^ n
+  turned_off-lt e d x h l = rotated-lt n some (bit_xor x e) (n - (d + 1) % n) (xor_lt n x e l h)
 
   pub group_of-lt : (e d x : ℕ) → e < 2 ^ n → x < 2 ^ n → group_of n e d x < 2 ^ n
   unfolding group_of
-  group_of-lt e d x h l = ungray-lt n n (turned n (bit_xor x e) (n - (d + 1) % n)) (turned_off-lt e d x h l)
+  group_of-lt e d x h l = ungray-lt n n (rotated n (bit_xor x e) (n - (d + 1) % n)) (turned_off-lt e d x h l)
 
   -- a step and the way back
   pub group_of-cell_bits : (e d w : ℕ) → w < 2 ^ n → group_of n e d (cell_bits n e d w) ≡ w
   unfolding group_of cell_bits
   group_of-cell_bits e d w l =
-      ap (λ x. ungray n (turned n x (n - (d + 1) % n))) (xor_twice (turned n (gray w) (d + 1)) e)
+      ap (λ x. ungray n (rotated n x (n - (d + 1) % n))) (xor_twice (rotated n (gray w) (d + 1)) e)
       ∙ ap (ungray n) (turned_back n some (gray w) (d + 1) (gray-lt n w l))
       ∙ (row n w some few l).code_back
 
   pub cell_bits-group_of : (e d x : ℕ) → e < 2 ^ n → x < 2 ^ n → cell_bits n e d (group_of n e d x) ≡ x
   unfolding group_of cell_bits
   cell_bits-group_of e d x h l =
-      ap (λ g. bit_xor (turned n g (d + 1)) e) ((row n (turned n (bit_xor x e) (n - (d + 1) % n)) some few (turned_off-lt e d x h l)).code_forth)
+      ap (λ g. bit_xor (rotated n g (d + 1)) e) ((row n (rotated n (bit_xor x e) (n - (d + 1) % n)) some few (turned_off-lt e d x h l)).code_forth)
       ∙ ap (λ g. bit_xor g e) (turned_forth n some (bit_xor x e) (d + 1) (xor_lt n x e l h))
       ∙ xor_twice x e
 

@@ -1,7 +1,7 @@
 //! One step of the curve's walk, and the way back.
 ghost use Rattle.std.specs.Prelude.{◌≡◌, ◌<◌, ◌≤◌, ◌^◌};
 ghost use Rattle.hilbert_curve.specs.Tables.{ungray};
-ghost use Rattle.hilbert_curve.specs.Curve.{turned, cell_bits, next_entry, next_direction, group_of};
+ghost use Rattle.hilbert_curve.specs.Curve.{rotated, cell_bits, next_entry, next_direction, group_of};
 ghost use Rattle.hilbert_curve.specs.RowLaws.{IsRow};
 
 use crate::rows::row_of;
@@ -47,7 +47,7 @@ fn turned_left<const N: usize>(x: u8, places: u8) -> u8
     requires axes { (0 < N) × (N ≤ 8) }
     requires places { places ≤ N }
     requires bits { x < 2 ^ N }
-    ensures turned { result ≡ turned N x places }
+    ensures turned { result ≡ rotated N x places }
     ensures within { result < 2 ^ N }
 {
     let x = u16::from(x);

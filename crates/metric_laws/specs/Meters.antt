@@ -1,20 +1,20 @@
 -- What a ruler that writes a log keeps.
 use Rattle.std.specs.Prelude.{ℕ, List, [], Option, Some, None, Vec}
-use Rattle.metric_laws.specs.Log.{Measured}
+use Rattle.metric_laws.specs.Log.{MeasuredPair}
 use Rattle.metric_laws.specs.declared.ruler.Traced.{Traced}
 
 -- the metric, how many distances it measured, and which, while that is told
 pub record Trace (M : Type 0) : Type 0 where
   pub metric : M
   pub count : ℕ
-  pub log : Option (List Measured)
+  pub log : Option (List MeasuredPair)
 
 -- the log as a list: nothing where it isn't told
-abbrev pub told_log : Option (List Measured) → List Measured
-told_log None = []
-told_log (Some log) = log
+abbrev pub known_log : Option (List MeasuredPair) → List MeasuredPair
+known_log None = []
+known_log (Some log) = log
 
-abbrev pub log_of : {G : Type 0} → Option (Vec (List ℕ × List ℕ) G) → Option (List Measured)
+abbrev pub log_of : {G : Type 0} → Option (Vec (List ℕ × List ℕ) G) → Option (List MeasuredPair)
 log_of None = None
 log_of (Some pairs) = Some pairs.items
 

@@ -1,7 +1,7 @@
 //! What measures by a metric, and counts how often.
 ghost use Rattle.std.specs.Prelude.{◌≡◌, ℕ, ◌+◌, ◌-◌, ◌^◌, ◌<◌, ◌↔◌, [], ◌∷◌, ◌++◌, IsTrue, OnOk, List, Option};
 ghost use Rattle.metric_laws.specs.Laws.{IsDistance};
-ghost use Rattle.metric_laws.specs.Log.{Measured, Grew};
+ghost use Rattle.metric_laws.specs.Log.{MeasuredPair, LogExtends};
 
 use crate::metric::Metric;
 use spb_edge::{Bytes, Memory};
@@ -29,7 +29,7 @@ pub trait Ruler {
     ghost count: { Self → ℕ };
 
     // which distances were measured, in order, where it is told
-    ghost log: { Self → Option (List Measured) };
+    ghost log: { Self → Option (List MeasuredPair) };
 
     /// Whether the ruler measures the object.
     fn admits(&self, object: &[u8]) -> bool
@@ -43,7 +43,7 @@ pub trait Ruler {
         ensures distance { result ≡ dist (kind self.old) a.now b.now }
         ensures kind { kind self.new ≡ kind self.old }
         ensures count { count self.new ≡ count self.old + 1 }
-        ensures log { Grew (log self.old) (log self.new) ((a.now, b.now) ∷ []) };
+        ensures log { LogExtends (log self.old) (log self.new) ((a.now, b.now) ∷ []) };
 
     // the distance is a metric on the admitted objects
     ghost ruler_laws: { (k : Kind) → IsDistance (admitted k) (dist k) };
@@ -109,7 +109,7 @@ pub struct Traced<M: Metric> {
 
 impl<M: Metric> Traced<M> {
     ghost use Rattle.std.specs.Prelude.{◌≡◌, [], Some};
-    ghost use Rattle.metric_laws.specs.Meters.{told_log, trace_of};
+    ghost use Rattle.metric_laws.specs.Meters.{known_log, trace_of};
 
     /// A ruler by the metric that has measured nothing. It takes no memory yet, and `measure` as much as
     /// copies of the two objects.
@@ -125,7 +125,7 @@ impl<M: Metric> Traced<M> {
 
     /// The pairs that it measured, in order; none, once memory ran out in a measurement.
     pub fn log(&self) -> &[(Bytes, Bytes)]
-        ensures { result.now ≡ told_log (trace_of self.now).log }
+        ensures { result.now ≡ known_log (trace_of self.now).log }
     {
         match &self.pairs {
             Some(pairs) => pairs.as_slice(),

@@ -12,9 +12,9 @@ use Rattle.std.proofs.lemmas.List.Folds.{list_any_none}
 use Rattle.std.proofs.lemmas.List.FromFn.{length-range_with_len}
 use Rattle.std.proofs.lemmas.List.Sums.{sum_by-cons, count_by-le-length}
 use Rattle.metric_laws.specs.Laws.{IsMetric}
-use Rattle.metrics_builtin.specs.Vectors.{components, spelled}
-use Rattle.metrics_builtin.specs.VectorLaws.{components-spelled, length-spelled, spelled-components}
-use Rattle.metrics_builtin.specs.Sets.{IsSubset, IsRisingWithin, has, exactly_one, set_dist}
+use Rattle.metrics_builtin.specs.Vectors.{components, object_of_components}
+use Rattle.metrics_builtin.specs.VectorLaws.{components-object_of_components, length-object_of_components, object_of_components-components}
+use Rattle.metrics_builtin.specs.Sets.{IsSubset, IsRisingWithin, is_element, exactly_one, set_dist}
 
 -- ---- counts of numbers that pass a test
 
@@ -84,22 +84,22 @@ none_passes p a (suc n) z e low high = elim (cases_eq z a) [
 -- ---- the elements of a list
 
 -- a number below all elements is none of them
-pub has-below : (e : ℕ) (xs : List ℕ) → All (λ x. e < x) xs → has xs e ≡ false
-has-below e xs h =
+pub is_element-below : (e : ℕ) (xs : List ℕ) → All (λ x. e < x) xs → is_element xs e ≡ false
+is_element-below e xs h =
     list_any_none (λ x. x == e) xs (λ k d inside. let below : e < get_or xs k d = h k d inside in grind (arith, nat_tests))
 
 -- a number past all elements is none of them
-has-past : (e : ℕ) (xs : List ℕ) → All (λ x. x < e) xs → has xs e ≡ false
-has-past e xs h =
+is_element-past : (e : ℕ) (xs : List ℕ) → All (λ x. x < e) xs → is_element xs e ≡ false
+is_element-past e xs h =
     list_any_none (λ x. x == e) xs (λ k d inside. let below : get_or xs k d < e = h k d inside in grind (arith, nat_tests))
 
 -- the first element
-has-first : (x : ℕ) (xs : List ℕ) → has (x ∷ xs) x ≡ true
-has-first x xs = let same : (x == x) ≡ true = grind (arith, nat_tests) in ap (λ b. b || has xs x) same
+is_element-first : (x : ℕ) (xs : List ℕ) → is_element (x ∷ xs) x ≡ true
+is_element-first x xs = let same : (x == x) ≡ true = grind (arith, nat_tests) in ap (λ b. b || is_element xs x) same
 
 -- another number than the first
-has-other : (x e : ℕ) (xs : List ℕ) → (x ≡ e → ⊥) → has (x ∷ xs) e ≡ has xs e
-has-other x e xs other = let test : (x == e) ≡ false = grind (arith, nat_tests) in ap (λ b. b || has xs e) test
+is_element-other : (x e : ℕ) (xs : List ℕ) → (x ≡ e → ⊥) → is_element (x ∷ xs) e ≡ is_element xs e
+is_element-other x e xs other = let test : (x == e) ≡ false = grind (arith, nat_tests) in ap (λ b. b || is_element xs e) test
 
 -- ---- rising lists
 
@@ -166,14 +166,14 @@ exactly_zero false false e = refl
 pub set_dist-comm : (universe : ℕ) (xs ys : List ℕ) → set_dist universe xs ys ≡ set_dist universe ys xs
 unfolding set_dist
 set_dist-comm universe xs ys =
-    count-same (λ e. exactly_one (has xs e) (has ys e)) (λ e. exactly_one (has ys e) (has xs e)) (λ e. exactly_comm (has xs e) (has ys e)) (range_with_len 0 universe)
+    count-same (λ e. exactly_one (is_element xs e) (is_element ys e)) (λ e. exactly_one (is_element ys e) (is_element xs e)) (λ e. exactly_comm (is_element xs e) (is_element ys e)) (range_with_len 0 universe)
 
 -- a way round is never shorter
 pub set_dist-triangle : (universe : ℕ) (xs ys zs : List ℕ) → set_dist universe xs zs ≤ set_dist universe xs ys + set_dist universe ys zs
 unfolding set_dist
 set_dist-triangle universe xs ys zs =
-    count-le (λ e. exactly_one (has xs e) (has zs e)) (λ e. exactly_one (has xs e) (has ys e)) (λ e. exactly_one (has ys e) (has zs e))
-    (λ e. exactly_triangle (has xs e) (has ys e) (has zs e)) (range_with_len 0 universe)
+    count-le (λ e. exactly_one (is_element xs e) (is_element zs e)) (λ e. exactly_one (is_element xs e) (is_element ys e)) (λ e. exactly_one (is_element ys e) (is_element zs e))
+    (λ e. exactly_triangle (is_element xs e) (is_element ys e) (is_element zs e)) (range_with_len 0 universe)
 
 none_of : (zs : List ℕ) → count_by (λ e. false) zs ≡ 0
 none_of [] = refl
@@ -183,7 +183,7 @@ none_of (z ∷ zs) = omega (arith, count-cons (λ e. false) z zs, none_of zs)
 pub set_dist-self : (universe : ℕ) (xs : List ℕ) → set_dist universe xs xs ≡ 0
 unfolding set_dist
 set_dist-self universe xs =
-    count-same (λ e. exactly_one (has xs e) (has xs e)) (λ e. false) (λ e. exactly_self (has xs e)) (range_with_len 0 universe)
+    count-same (λ e. exactly_one (is_element xs e) (is_element xs e)) (λ e. false) (λ e. exactly_self (is_element xs e)) (range_with_len 0 universe)
     ∙ none_of (range_with_len 0 universe)
 
 one_or : (a b : Bool) → one (a || b) ≤ one a + one b
@@ -191,49 +191,49 @@ one_or true b = omega arith
 one_or false b = omega arith
 
 -- a list has no more elements than its length
-few_elements : (universe : ℕ) (xs : List ℕ) → count_by (has xs) (range_with_len 0 universe) ≤ length xs
+few_elements : (universe : ℕ) (xs : List ℕ) → count_by (is_element xs) (range_with_len 0 universe) ≤ length xs
 few_elements universe [] = omega (arith, none_of (range_with_len 0 universe))
 few_elements universe (x ∷ xs) =
-    omega (arith, count-le (has (x ∷ xs)) (λ z. x == z) (has xs) (λ z. one_or (x == z) (has xs z)) (range_with_len 0 universe), count-once x 0 universe, few_elements universe xs)
+    omega (arith, count-le (is_element (x ∷ xs)) (λ z. x == z) (is_element xs) (λ z. one_or (x == z) (is_element xs z)) (range_with_len 0 universe), count-once x 0 universe, few_elements universe xs)
 
 -- no more elements differ than the two have
 set_dist-le-lengths : (universe : ℕ) (xs ys : List ℕ) → set_dist universe xs ys ≤ length xs + length ys
 unfolding set_dist
 set_dist-le-lengths universe xs ys =
-    omega (arith, count-le (λ e. exactly_one (has xs e) (has ys e)) (has xs) (has ys) (λ e. exactly_le (has xs e) (has ys e)) (range_with_len 0 universe), few_elements universe xs, few_elements universe ys)
+    omega (arith, count-le (λ e. exactly_one (is_element xs e) (is_element ys e)) (is_element xs) (is_element ys) (λ e. exactly_le (is_element xs e) (is_element ys e)) (range_with_len 0 universe), few_elements universe xs, few_elements universe ys)
 
 -- nor than the universe has
 set_dist-le-universe : (universe : ℕ) (xs ys : List ℕ) → set_dist universe xs ys ≤ universe
 unfolding set_dist
 set_dist-le-universe universe xs ys =
-    omega (arith, count_by-le-length (λ e. exactly_one (has xs e) (has ys e)) (range_with_len 0 universe), length-range_with_len 0 universe)
+    omega (arith, count_by-le-length (λ e. exactly_one (is_element xs e) (is_element ys e)) (range_with_len 0 universe), length-range_with_len 0 universe)
 
 -- ---- equal sets
 
 -- a first element below all of the other list is in one alone
-alone : (x : ℕ) (xs ys : List ℕ) → All (λ z. x < z) ys → ((e : ℕ) → has (x ∷ xs) e ≡ has ys e) → ⊥
-alone x xs ys above h = let none : has ys x ≡ false = has-below x ys above in cc (h x, has-first x xs)
+alone : (x : ℕ) (xs ys : List ℕ) → All (λ z. x < z) ys → ((e : ℕ) → is_element (x ∷ xs) e ≡ is_element ys e) → ⊥
+alone x xs ys above h = let none : is_element ys x ≡ false = is_element-below x ys above in cc (h x, is_element-first x xs)
 
-first_differs : (x y : ℕ) (xs ys : List ℕ) → All (λ z. x < z) xs → All (λ z. y < z) ys → ((e : ℕ) → has (x ∷ xs) e ≡ has (y ∷ ys) e) → (x ≡ y → ⊥) → ⊥
+first_differs : (x y : ℕ) (xs ys : List ℕ) → All (λ z. x < z) xs → All (λ z. y < z) ys → ((e : ℕ) → is_element (x ∷ xs) e ≡ is_element (y ∷ ys) e) → (x ≡ y → ⊥) → ⊥
 first_differs x y xs ys above above_y h other = elim (cases_lt x y) [
   | inl low ↦ alone x xs (y ∷ ys) (above_next x y ys low above_y) h
   | inr high ↦ alone y ys (x ∷ xs) (above_next y x xs (omega arith) above) (λ e. sym (h e))
 ]
 
-same_rest : (x y : ℕ) (xs ys : List ℕ) → x ≡ y → All (λ z. x < z) xs → All (λ z. y < z) ys → ((e : ℕ) → has (x ∷ xs) e ≡ has (y ∷ ys) e) → (e : ℕ) → has xs e ≡ has ys e
+same_rest : (x y : ℕ) (xs ys : List ℕ) → x ≡ y → All (λ z. x < z) xs → All (λ z. y < z) ys → ((e : ℕ) → is_element (x ∷ xs) e ≡ is_element (y ∷ ys) e) → (e : ℕ) → is_element xs e ≡ is_element ys e
 same_rest x y xs ys same above above_y h e = elim (cases_eq x e) [
   | inl here ↦
-      let none : has xs x ≡ false = has-below x xs above in
-      let none_y : has ys y ≡ false = has-below y ys above_y in
-      ap (has xs) (sym here) ∙ none ∙ sym none_y ∙ ap (has ys) (sym same ∙ here)
-  | inr other ↦ sym (has-other x e xs other) ∙ h e ∙ has-other y e ys (λ here. other (same ∙ here))
+      let none : is_element xs x ≡ false = is_element-below x xs above in
+      let none_y : is_element ys y ≡ false = is_element-below y ys above_y in
+      ap (is_element xs) (sym here) ∙ none ∙ sym none_y ∙ ap (is_element ys) (sym same ∙ here)
+  | inr other ↦ sym (is_element-other x e xs other) ∙ h e ∙ is_element-other y e ys (λ here. other (same ∙ here))
 ]
 
 -- rising lists with the same elements are equal
-same_elements : (xs ys : List ℕ) → IsStrictlyIncreasing xs → IsStrictlyIncreasing ys → ((e : ℕ) → has xs e ≡ has ys e) → xs ≡ ys
+same_elements : (xs ys : List ℕ) → IsStrictlyIncreasing xs → IsStrictlyIncreasing ys → ((e : ℕ) → is_element xs e ≡ is_element ys e) → xs ≡ ys
 same_elements [] [] r s h = refl
-same_elements [] (y ∷ ys) r s h = absurd (cc (h y, has-first y ys))
-same_elements (x ∷ xs) [] r s h = absurd (cc (h x, has-first x xs))
+same_elements [] (y ∷ ys) r s h = absurd (cc (h y, is_element-first y ys))
+same_elements (x ∷ xs) [] r s h = absurd (cc (h x, is_element-first x xs))
 same_elements (x ∷ xs) (y ∷ ys) r s h =
     let above : All (λ z. x < z) xs = rising-above x xs r in
     let above_y : All (λ z. y < z) ys = rising-above y ys s in
@@ -250,43 +250,43 @@ pub set_dist-zero : (universe : ℕ) (xs ys : List ℕ) → IsStrictlyIncreasing
 unfolding set_dist
 set_dist-zero universe xs ys r s v w z =
     same_elements xs ys r s (λ e. elim (cases_lt e universe) [
-      | inl inside ↦ exactly_zero (has xs e) (has ys e) (none_passes (λ k. exactly_one (has xs k) (has ys k)) 0 universe e z (omega arith) (omega arith))
+      | inl inside ↦ exactly_zero (is_element xs e) (is_element ys e) (none_passes (λ k. exactly_one (is_element xs k) (is_element ys k)) 0 universe e z (omega arith) (omega arith))
       | inr outside ↦
-          has-past e xs (λ k d h. let below : get_or xs k d < universe = v k d h in omega arith)
-          ∙ sym (has-past e ys (λ k d h. let below : get_or ys k d < universe = w k d h in omega arith))
+          is_element-past e xs (λ k d h. let below : get_or xs k d < universe = v k d h in omega arith)
+          ∙ sym (is_element-past e ys (λ k d h. let below : get_or ys k d < universe = w k d h in omega arith))
     ])
 
 -- ---- a step of a merge
 
-one_more : (x : ℕ) (xs ys : List ℕ) → has xs x ≡ false → has ys x ≡ false → (z : ℕ) →
-    one (exactly_one (has (x ∷ xs) z) (has ys z)) ≡ one (x == z) + one (exactly_one (has xs z) (has ys z))
+one_more : (x : ℕ) (xs ys : List ℕ) → is_element xs x ≡ false → is_element ys x ≡ false → (z : ℕ) →
+    one (exactly_one (is_element (x ∷ xs) z) (is_element ys z)) ≡ one (x == z) + one (exactly_one (is_element xs z) (is_element ys z))
 one_more x xs ys none none_y z = elim (cases_eq x z) [
   | inl e ↦
       let first : (x == z) ≡ true = grind (arith, nat_tests) in
-      let missing : has xs z ≡ false = ap (has xs) (sym e) ∙ none in
-      let missing_y : has ys z ≡ false = ap (has ys) (sym e) ∙ none_y in
+      let missing : is_element xs z ≡ false = ap (is_element xs) (sym e) ∙ none in
+      let missing_y : is_element ys z ≡ false = ap (is_element ys) (sym e) ∙ none_y in
       rw (first, missing, missing_y) refl
   | inr other ↦
-      omega (arith, ap (λ b. one (exactly_one b (has ys z))) (has-other x z xs other), test_other x z other)
+      omega (arith, ap (λ b. one (exactly_one b (is_element ys z))) (is_element-other x z xs other), test_other x z other)
 ]
 
 -- an element that the rest of one list and the other list lack counts
-pub set_dist-one : (universe x : ℕ) (xs ys : List ℕ) → x < universe → has xs x ≡ false → has ys x ≡ false →
+pub set_dist-one : (universe x : ℕ) (xs ys : List ℕ) → x < universe → is_element xs x ≡ false → is_element ys x ≡ false →
     set_dist universe (x ∷ xs) ys ≡ 1 + set_dist universe xs ys
 unfolding set_dist
 set_dist-one universe x xs ys inside none none_y =
-    omega (arith, count-sum (λ e. exactly_one (has (x ∷ xs) e) (has ys e)) (λ e. x == e) (λ e. exactly_one (has xs e) (has ys e)) (one_more x xs ys none none_y) (range_with_len 0 universe), count-here x 0 universe (omega arith) (omega arith))
+    omega (arith, count-sum (λ e. exactly_one (is_element (x ∷ xs) e) (is_element ys e)) (λ e. x == e) (λ e. exactly_one (is_element xs e) (is_element ys e)) (one_more x xs ys none none_y) (range_with_len 0 universe), count-here x 0 universe (omega arith) (omega arith))
 
 -- an element of both lists counts nothing
-pub set_dist-both : (universe x : ℕ) (xs ys : List ℕ) → has xs x ≡ false → has ys x ≡ false →
+pub set_dist-both : (universe x : ℕ) (xs ys : List ℕ) → is_element xs x ≡ false → is_element ys x ≡ false →
     set_dist universe (x ∷ xs) (x ∷ ys) ≡ set_dist universe xs ys
 unfolding set_dist
 set_dist-both universe x xs ys none none_y =
-    count-same (λ e. exactly_one (has (x ∷ xs) e) (has (x ∷ ys) e)) (λ e. exactly_one (has xs e) (has ys e)) (λ z. elim (cases_eq x z) [
+    count-same (λ e. exactly_one (is_element (x ∷ xs) e) (is_element (x ∷ ys) e)) (λ e. exactly_one (is_element xs e) (is_element ys e)) (λ z. elim (cases_eq x z) [
       | inl e ↦
           let first : (x == z) ≡ true = grind (arith, nat_tests) in
-          let missing : has xs z ≡ false = ap (has xs) (sym e) ∙ none in
-          let missing_y : has ys z ≡ false = ap (has ys) (sym e) ∙ none_y in
+          let missing : is_element xs z ≡ false = ap (is_element xs) (sym e) ∙ none in
+          let missing_y : is_element ys z ≡ false = ap (is_element ys) (sym e) ∙ none_y in
           rw (first, missing, missing_y) refl
       | inr other ↦
           let first : (x == z) ≡ false = grind (arith, nat_tests) in
@@ -298,7 +298,7 @@ pub set_dist-nil : (universe : ℕ) (xs : List ℕ) → IsStrictlyIncreasing xs 
 set_dist-nil universe [] r v = set_dist-self universe []
 set_dist-nil universe (x ∷ xs) r v =
     let below : x < universe = v 0 0 (omega arith) in
-    omega (arith, set_dist-one universe x xs [] below (has-below x xs (rising-above x xs r)) refl, set_dist-nil universe xs (rising-tail x xs r) (All-tail (λ k. k < universe) x xs v))
+    omega (arith, set_dist-one universe x xs [] below (is_element-below x xs (rising-above x xs r)) refl, set_dist-nil universe xs (rising-tail x xs r) (All-tail (λ k. k < universe) x xs v))
 
 -- what is left of two lists, where the first number left of one is the lesser or both are equal
 pub record Merges (universe i j : ℕ) (xs ys : List ℕ) : Type 0 where
@@ -311,13 +311,13 @@ merges_cons universe x y xs ys r s inside inside_y =
     let above : All (λ z. x < z) xs = rising-above x xs r in
     let above_y : All (λ z. y < z) ys = rising-above y ys s in
     record {
-      less = λ low. set_dist-one universe x xs (y ∷ ys) inside (has-below x xs above) (has-below x (y ∷ ys) (above_next x y ys low above_y));
+      less = λ low. set_dist-one universe x xs (y ∷ ys) inside (is_element-below x xs above) (is_element-below x (y ∷ ys) (above_next x y ys low above_y));
       greater = λ low.
           set_dist-comm universe (x ∷ xs) (y ∷ ys)
-          ∙ set_dist-one universe y ys (x ∷ xs) inside_y (has-below y ys above_y) (has-below y (x ∷ xs) (above_next y x xs low above))
+          ∙ set_dist-one universe y ys (x ∷ xs) inside_y (is_element-below y ys above_y) (is_element-below y (x ∷ xs) (above_next y x xs low above))
           ∙ ap (λ n. 1 + n) (set_dist-comm universe ys (x ∷ xs));
       equal = λ e. subst (λ z. set_dist universe (x ∷ xs) (z ∷ ys) ≡ set_dist universe xs ys) e
-          (set_dist-both universe x xs ys (has-below x xs above) (has-below x ys (subst (λ z. All (λ k. z < k) ys) (sym e) above_y)));
+          (set_dist-both universe x xs ys (is_element-below x xs above) (is_element-below x ys (subst (λ z. All (λ k. z < k) ys) (sym e) above_y)));
     }
 
 -- a step of a merge of rising lists
@@ -355,7 +355,7 @@ merges_end universe i j xs ys r s v w h k end = elim (cases_lt i (length xs)) [
 -- the elements of a subset are its components
 pub components-IsSubset : (universe most : ℕ) (object : List ℕ) → universe < 2 ^ 32 → (v : IsSubset universe most object) → components object ≡ v.elements
 components-IsSubset universe most object small v =
-    ap components v.spelling ∙ components-spelled v.elements (λ k d h. let low : get_or v.elements k d < universe = v.set.within k d h in omega arith)
+    ap components v.spelling ∙ components-object_of_components v.elements (λ k d h. let low : get_or v.elements k d < universe = v.set.within k d h in omega arith)
 
 -- the components of a subset: rising, within the universe, few
 pub elements-IsSubset : (universe most : ℕ) (object : List ℕ) → universe < 2 ^ 32 → IsSubset universe most object → IsRisingWithin universe most (components object)
@@ -364,7 +364,7 @@ elements-IsSubset universe most object small v =
 
 -- a subset has four bytes for each element
 pub length-IsSubset : (universe most : ℕ) (object : List ℕ) → (v : IsSubset universe most object) → length object ≡ 4 * length v.elements
-length-IsSubset universe most object v = ap length v.spelling ∙ length-spelled v.elements
+length-IsSubset universe most object v = ap length v.spelling ∙ length-object_of_components v.elements
 
 -- rising components within the universe, and no byte besides, are a subset
 pub IsSubset-components : (universe most : ℕ) (object : List ℕ) (n : ℕ) → length object ≡ 4 * n → ((i : ℕ) → get_or object i 0 < 256) →
@@ -372,14 +372,14 @@ pub IsSubset-components : (universe most : ℕ) (object : List ℕ) (n : ℕ) �
 IsSubset-components universe most object n e bytes set = record {
   elements = components object;
   set = set;
-  spelling = sym (spelled-components object n e bytes);
+  spelling = sym (object_of_components-components object n e bytes);
 }
 
 -- two subsets of the same elements are one object
 same_subset : (universe most : ℕ) (a b : List ℕ) → universe < 2 ^ 32 → IsSubset universe most a → IsSubset universe most b → components a ≡ components b → a ≡ b
 same_subset universe most a b small v w e =
     let elements : v.elements ≡ w.elements = sym (components-IsSubset universe most a small v) ∙ e ∙ components-IsSubset universe most b small w in
-    v.spelling ∙ ap spelled elements ∙ sym w.spelling
+    v.spelling ∙ ap object_of_components elements ∙ sym w.spelling
 
 -- the set difference is a metric on subsets
 pub set_metric : (universe most : ℕ) → universe < 2 ^ 32 →

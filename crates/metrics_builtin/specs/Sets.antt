@@ -3,7 +3,7 @@
 use Rattle.std.specs.Prelude.{◌≡◌, ℕ, ◌<◌, ◌≤◌, ◌==◌, Bool, true, false, not, List, length, All, count_by}
 use Rattle.std.specs.List.{list_any, range_with_len}
 use Rattle.std.specs.List.Sorted.{IsStrictlyIncreasing}
-use Rattle.metrics_builtin.specs.Vectors.{spelled}
+use Rattle.metrics_builtin.specs.Vectors.{object_of_components}
 
 -- at most `most` rising numbers below `universe`
 pub record IsRisingWithin (universe most : ℕ) (elements : List ℕ) : Type 0 where
@@ -15,11 +15,11 @@ pub record IsRisingWithin (universe most : ℕ) (elements : List ℕ) : Type 0 w
 pub record IsSubset (universe most : ℕ) (object : List ℕ) : Type 0 where
   pub elements : List ℕ
   pub set : IsRisingWithin universe most elements
-  pub spelling : object ≡ spelled elements
+  pub spelling : object ≡ object_of_components elements
 
 -- whether the number is one of the elements
-abbrev pub has : List ℕ → ℕ → Bool
-has elements e = list_any (λ x. x == e) elements
+abbrev pub is_element : List ℕ → ℕ → Bool
+is_element elements e = list_any (λ x. x == e) elements
 
 -- whether exactly one of the two holds
 abbrev pub exactly_one : Bool → Bool → Bool
@@ -28,4 +28,4 @@ exactly_one false b = b
 
 -- how many numbers below `universe` are elements of exactly one of the two
 unfoldable pub set_dist : ℕ → List ℕ → List ℕ → ℕ
-set_dist universe xs ys = count_by (λ e. exactly_one (has xs e) (has ys e)) (range_with_len 0 universe)
+set_dist universe xs ys = count_by (λ e. exactly_one (is_element xs e) (is_element ys e)) (range_with_len 0 universe)

@@ -5,44 +5,44 @@ use Rattle.std.specs.Int.{w32, to_be_bytes, from_be_bytes}
 use Rattle.std.proofs.lemmas.List.Elements.{All-from_get_or, All-tail}
 use Rattle.std.proofs.lemmas.Grind.{flat_map-append}
 use Rattle.std.proofs.lemmas.Nat.{be_bytes_4, from_be_bytes-to_be_bytes_4}
-use Rattle.metrics_builtin.specs.Vectors.{components, spelled, IsVector}
+use Rattle.metrics_builtin.specs.Vectors.{components, object_of_components, IsVector}
 
 -- ---- objects and their components
 
 -- the first component is spelled first
-pub spelled-cons : (x : ℕ) (xs : List ℕ) → spelled (x ∷ xs) ≡ to_be_bytes w32 x ++ spelled xs
-unfolding spelled
-spelled-cons x xs = refl
+pub object_of_components-cons : (x : ℕ) (xs : List ℕ) → object_of_components (x ∷ xs) ≡ to_be_bytes w32 x ++ object_of_components xs
+unfolding object_of_components
+object_of_components-cons x xs = refl
 
 -- what is spelled later stands behind
-pub spelled-append : (xs ys : List ℕ) → spelled (xs ++ ys) ≡ spelled xs ++ spelled ys
-unfolding spelled
-spelled-append xs ys = flat_map-append (to_be_bytes w32) xs ys
+pub object_of_components-append : (xs ys : List ℕ) → object_of_components (xs ++ ys) ≡ object_of_components xs ++ object_of_components ys
+unfolding object_of_components
+object_of_components-append xs ys = flat_map-append (to_be_bytes w32) xs ys
 
 -- each component takes four bytes
-pub length-spelled : (xs : List ℕ) → length (spelled xs) ≡ 4 * length xs
-unfolding spelled
-length-spelled [] = refl
-length-spelled (x ∷ xs) = omega (arith, length-spelled xs)
+pub length-object_of_components : (xs : List ℕ) → length (object_of_components xs) ≡ 4 * length xs
+unfolding object_of_components
+length-object_of_components [] = refl
+length-object_of_components (x ∷ xs) = omega (arith, length-object_of_components xs)
 
 -- what is spelled are bytes
-pub All-spelled : (xs : List ℕ) → All (λ b. b < 256) (spelled xs)
-unfolding spelled
-All-spelled [] k d h = absurd (omega arith)
-All-spelled (x ∷ xs) zero d h = omega arith
-All-spelled (x ∷ xs) (suc zero) d h = omega arith
-All-spelled (x ∷ xs) (suc (suc zero)) d h = omega arith
-All-spelled (x ∷ xs) (suc (suc (suc zero))) d h = omega arith
-All-spelled (x ∷ xs) (suc (suc (suc (suc k)))) d h = All-spelled xs k d (omega arith)
+pub All-object_of_components : (xs : List ℕ) → All (λ b. b < 256) (object_of_components xs)
+unfolding object_of_components
+All-object_of_components [] k d h = absurd (omega arith)
+All-object_of_components (x ∷ xs) zero d h = omega arith
+All-object_of_components (x ∷ xs) (suc zero) d h = omega arith
+All-object_of_components (x ∷ xs) (suc (suc zero)) d h = omega arith
+All-object_of_components (x ∷ xs) (suc (suc (suc zero))) d h = omega arith
+All-object_of_components (x ∷ xs) (suc (suc (suc (suc k)))) d h = All-object_of_components xs k d (omega arith)
 
 -- reading what was spelled gives the components
-pub components-spelled : (xs : List ℕ) → All (λ x. x < 2 ^ 32) xs → components (spelled xs) ≡ xs
-unfolding components spelled
-components-spelled [] h = refl
-components-spelled (x ∷ xs) h =
+pub components-object_of_components : (xs : List ℕ) → All (λ x. x < 2 ^ 32) xs → components (object_of_components xs) ≡ xs
+unfolding components object_of_components
+components-object_of_components [] h = refl
+components-object_of_components (x ∷ xs) h =
     let first : from_be_bytes w32 (to_be_bytes w32 x) ≡ x = from_be_bytes-to_be_bytes_4 x (h 0 0 (omega arith)) in
-    let rest : components (spelled xs) ≡ xs = components-spelled xs (All-tail (λ y. y < 2 ^ 32) x xs h) in
-    ap (λ y. y ∷ components (spelled xs)) first ∙ ap (λ ys. x ∷ ys) rest
+    let rest : components (object_of_components xs) ≡ xs = components-object_of_components xs (All-tail (λ y. y < 2 ^ 32) x xs h) in
+    ap (λ y. y ∷ components (object_of_components xs)) first ∙ ap (λ ys. x ∷ ys) rest
 
 -- four bytes are a component
 pub length-components : (object : List ℕ) (n : ℕ) → length object ≡ 4 * n → length (components object) ≡ n
@@ -104,35 +104,35 @@ four_bytes a b c d rest h (suc (suc (suc zero))) = h 3
 four_bytes a b c d rest h (suc (suc (suc (suc i)))) = omega arith
 
 -- an object of whole components is spelled by them
-pub spelled-components : (object : List ℕ) (n : ℕ) → length object ≡ 4 * n →
-    ((i : ℕ) → get_or object i 0 < 256) → spelled (components object) ≡ object
-unfolding components spelled
-spelled-components (a ∷ b ∷ c ∷ d ∷ rest) zero e h = absurd (omega arith)
-spelled-components (a ∷ b ∷ c ∷ d ∷ rest) (suc n) e h =
+pub object_of_components-components : (object : List ℕ) (n : ℕ) → length object ≡ 4 * n →
+    ((i : ℕ) → get_or object i 0 < 256) → object_of_components (components object) ≡ object
+unfolding components object_of_components
+object_of_components-components (a ∷ b ∷ c ∷ d ∷ rest) zero e h = absurd (omega arith)
+object_of_components-components (a ∷ b ∷ c ∷ d ∷ rest) (suc n) e h =
     let first : to_be_bytes w32 (from_be_bytes w32 (a ∷ b ∷ c ∷ d ∷ [])) ≡ a ∷ b ∷ c ∷ d ∷ [] = be_bytes_4 (a ∷ b ∷ c ∷ d ∷ []) _ refl (four_bytes a b c d rest h) refl in
-    let others : spelled (components rest) ≡ rest = spelled-components rest n (omega arith) (λ i. h (suc (suc (suc (suc i))))) in
-    ap (λ bytes. bytes ++ spelled (components rest)) first ∙ ap (λ bytes. a ∷ b ∷ c ∷ d ∷ bytes) others
-spelled-components [] n e h = refl
-spelled-components (a ∷ []) n e h = absurd (omega arith)
-spelled-components (a ∷ b ∷ []) n e h = absurd (omega arith)
-spelled-components (a ∷ b ∷ c ∷ []) n e h = absurd (omega arith)
+    let others : object_of_components (components rest) ≡ rest = object_of_components-components rest n (omega arith) (λ i. h (suc (suc (suc (suc i))))) in
+    ap (λ bytes. bytes ++ object_of_components (components rest)) first ∙ ap (λ bytes. a ∷ b ∷ c ∷ d ∷ bytes) others
+object_of_components-components [] n e h = refl
+object_of_components-components (a ∷ []) n e h = absurd (omega arith)
+object_of_components-components (a ∷ b ∷ []) n e h = absurd (omega arith)
+object_of_components-components (a ∷ b ∷ c ∷ []) n e h = absurd (omega arith)
 
 -- ---- vectors
 
 -- components of the right number, none past `most`, spell a vector
-pub IsVector-spelled : (dim most : ℕ) (xs : List ℕ) → length xs ≡ dim → All (λ x. x ≤ most) xs →
-    IsVector dim most (spelled xs)
-IsVector-spelled dim most xs e h = record { numbers = xs; dimension = e; within = h; spelling = refl }
+pub IsVector-object_of_components : (dim most : ℕ) (xs : List ℕ) → length xs ≡ dim → All (λ x. x ≤ most) xs →
+    IsVector dim most (object_of_components xs)
+IsVector-object_of_components dim most xs e h = record { numbers = xs; dimension = e; within = h; spelling = refl }
 
 -- a vector has four bytes for each component
 pub length-IsVector : (dim most : ℕ) (object : List ℕ) → IsVector dim most object → length object ≡ 4 * dim
-length-IsVector dim most object v = ap length v.spelling ∙ length-spelled v.numbers ∙ ap (λ n. 4 * n) v.dimension
+length-IsVector dim most object v = ap length v.spelling ∙ length-object_of_components v.numbers ∙ ap (λ n. 4 * n) v.dimension
 
 -- the components of a vector are the numbers that it spells
 pub components-IsVector : (dim most : ℕ) (object : List ℕ) → most < 2 ^ 32 →
     (v : IsVector dim most object) → components object ≡ v.numbers
 components-IsVector dim most object small v =
-    ap components v.spelling ∙ components-spelled v.numbers (λ k d h. let low : get_or v.numbers k d ≤ most = v.within k d h in omega arith)
+    ap components v.spelling ∙ components-object_of_components v.numbers (λ k d h. let low : get_or v.numbers k d ≤ most = v.within k d h in omega arith)
 
 -- a vector has `dim` components
 pub length-components-IsVector : (dim most : ℕ) (object : List ℕ) → IsVector dim most object →
@@ -150,7 +150,7 @@ pub same_components : (dim most : ℕ) (a b : List ℕ) → most < 2 ^ 32 → Is
     IsVector dim most b → components a ≡ components b → a ≡ b
 same_components dim most a b small v w e =
     let numbers : v.numbers ≡ w.numbers = sym (components-IsVector dim most a small v) ∙ e ∙ components-IsVector dim most b small w in
-    v.spelling ∙ ap spelled numbers ∙ sym w.spelling
+    v.spelling ∙ ap object_of_components numbers ∙ sym w.spelling
 
 -- bytes of the right number with no component past `most` are a vector
 pub IsVector-components : (dim most : ℕ) (object : List ℕ) → length object ≡ 4 * dim →
@@ -162,7 +162,7 @@ IsVector-components dim most object e bytes low =
       numbers = components object;
       dimension = many;
       within = All-from_get_or (λ x. x ≤ most) (components object) 0 (λ k h. low k (omega arith));
-      spelling = sym (spelled-components object dim e bytes);
+      spelling = sym (object_of_components-components object dim e bytes);
     }
 
 -- vectors of one dimension have as many components

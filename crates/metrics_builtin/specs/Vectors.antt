@@ -9,15 +9,15 @@ components (a ∷ b ∷ c ∷ d ∷ rest) = from_be_bytes w32 (a ∷ b ∷ c ∷
 components _ = []
 
 -- the object of a list of components
-unfoldable pub spelled : List ℕ → List ℕ
-spelled numbers = flat_map (to_be_bytes w32) numbers
+unfoldable pub object_of_components : List ℕ → List ℕ
+object_of_components numbers = flat_map (to_be_bytes w32) numbers
 
 -- the object spells `dim` components of at most `most`
 pub record IsVector (dim most : ℕ) (object : List ℕ) : Type 0 where
   pub numbers : List ℕ
   pub dimension : length numbers ≡ dim
   pub within : All (λ x. x ≤ most) numbers
-  pub spelling : object ≡ spelled numbers
+  pub spelling : object ≡ object_of_components numbers
 
 -- the sum of the differences, component by component
 unfoldable pub l1_dist : List ℕ → List ℕ → ℕ

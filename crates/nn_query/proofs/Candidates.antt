@@ -9,65 +9,65 @@ use Rattle.std.proofs.lemmas.List.Elements.{All-from_recursion}
 use Rattle.std.proofs.lemmas.List.Sums.{sum_by-cons}
 use Rattle.std.proofs.lemmas.List.Sorted.{IsPermutation-map, IsPermutation-trans, sum_by-IsPermutation}
 use Rattle.answer_lists.specs.Order.{goes_before}
-use Rattle.answer_lists.specs.OrderLaws.{HasDistinct, goes_before-is, permutation-arranged}
+use Rattle.answer_lists.specs.OrderLaws.{HasDistinctKeys, goes_before-is, permutation-sorted_by}
 use Rattle.answer_lists.specs.Permutations.{permutation-flat_map}
 use Rattle.spb_defs.specs.Pivots.{vector_of, cells_of, lower_bound}
-use Rattle.spb_defs.specs.Scans.{Row, bound_of}
+use Rattle.spb_defs.specs.Scans.{Entry, rank_bound}
 use Rattle.pivot_map.specs.declared.row.Row as vector_row
 use Rattle.pivot_map.specs.Rows.{entry_of, entries_of}
 use Rattle.pivot_map.specs.Bounds.{BoundsHold}
 use Rattle.nn_query.specs.declared.queue.Waiting.{Waiting}
-use Rattle.nn_query.specs.Listed.{candidate_for, listed, object_in, empty_nodes}
-use Rattle.nn_query.specs.Queue.{Candidate, waiting_for, key_of, comes_first, under, weight_of, waiting}
+use Rattle.nn_query.specs.Listed.{candidate_for, candidates_for, object_at_place, empty_nodes}
+use Rattle.nn_query.specs.Queue.{Candidate, as_waiting, bound_rank, candidate_is_before, candidates_under, weight_of, queued_candidates}
 use Rattle.nn_query.specs.Visits.{entry_at, entries_at, CanVisit, IsLeast, AreBounds}
 use Rattle.nn_query.proofs.Lists.{all-map, all-moved}
 
 -- ---- the list
 
-pub listed-none : (asked : List ℕ) (place : ℕ) → listed asked place [] ≡ []
-unfolding listed
-listed-none asked place = refl
+pub candidates_for-none : (asked : List ℕ) (place : ℕ) → candidates_for asked place [] ≡ []
+unfolding candidates_for
+candidates_for-none asked place = refl
 
-listed-last : (asked : List ℕ) (n m : ℕ) (rows : List vector_row.Row) (row : vector_row.Row) → n + length rows ≡ m → listed asked n (rows ++ row ∷ []) ≡ listed asked n rows ++ candidate_for asked m row ∷ []
-unfolding listed
-listed-last asked n m [] row is = ap (λ (place : ℕ). candidate_for asked place row ∷ []) (let e : n ≡ m = omega (arith, is) in e)
-listed-last asked n m (r ∷ rows) row is = ap (λ rest. candidate_for asked n r ∷ rest) (listed-last asked (n + 1) m rows row (omega (arith, is)))
+candidates_for-last : (asked : List ℕ) (n m : ℕ) (rows : List vector_row.Row) (row : vector_row.Row) → n + length rows ≡ m → candidates_for asked n (rows ++ row ∷ []) ≡ candidates_for asked n rows ++ candidate_for asked m row ∷ []
+unfolding candidates_for
+candidates_for-last asked n m [] row is = ap (λ (place : ℕ). candidate_for asked place row ∷ []) (let e : n ≡ m = omega (arith, is) in e)
+candidates_for-last asked n m (r ∷ rows) row is = ap (λ rest. candidate_for asked n r ∷ rest) (candidates_for-last asked (n + 1) m rows row (omega (arith, is)))
 
-pub listed-more : (asked : List ℕ) (rows : List vector_row.Row) (i bound : ℕ) (row : vector_row.Row) → i < length rows → row ≡ get_or rows i row → bound ≡ lower_bound asked row.vect
-    → listed asked 0 (take i rows) ++ record { bound = bound; id = row.id; place = i } ∷ [] ≡ listed asked 0 (take (i + 1) rows)
-listed-more asked rows i bound row within at is =
+pub candidates_for-more : (asked : List ℕ) (rows : List vector_row.Row) (i bound : ℕ) (row : vector_row.Row) → i < length rows → row ≡ get_or rows i row → bound ≡ lower_bound asked row.vect
+    → candidates_for asked 0 (take i rows) ++ record { bound = bound; id = row.id; place = i } ∷ [] ≡ candidates_for asked 0 (take (i + 1) rows)
+candidates_for-more asked rows i bound row within at is =
     let long = length-take-le i rows (omega (arith, within)) in
-    ap (λ (b : ℕ). listed asked 0 (take i rows) ++ record { bound = b; id = row.id; place = i } ∷ []) is
-    ∙ sym (listed-last asked 0 i (take i rows) row (let e : 0 + length (take i rows) ≡ i = omega (arith, long) in e))
-    ∙ ap (λ r. listed asked 0 (take i rows ++ r ∷ [])) at
-    ∙ ap (listed asked 0) (sym (take_more rows i row within))
+    ap (λ (b : ℕ). candidates_for asked 0 (take i rows) ++ record { bound = b; id = row.id; place = i } ∷ []) is
+    ∙ sym (candidates_for-last asked 0 i (take i rows) row (let e : 0 + length (take i rows) ≡ i = omega (arith, long) in e))
+    ∙ ap (λ r. candidates_for asked 0 (take i rows ++ r ∷ [])) at
+    ∙ ap (candidates_for asked 0) (sym (take_more rows i row within))
 
-length-listed : (asked : List ℕ) (n : ℕ) (rows : List vector_row.Row) → length (listed asked n rows) ≡ length rows
-unfolding listed
-length-listed asked n [] = refl
-length-listed asked n (row ∷ rows) = ap suc (length-listed asked (n + 1) rows)
+length-candidates_for : (asked : List ℕ) (n : ℕ) (rows : List vector_row.Row) → length (candidates_for asked n rows) ≡ length rows
+unfolding candidates_for
+length-candidates_for asked n [] = refl
+length-candidates_for asked n (row ∷ rows) = ap suc (length-candidates_for asked (n + 1) rows)
 
-all-listed : (P : Candidate → Type 0) (asked : List ℕ) (n : ℕ) (rows : List vector_row.Row) → ((k : ℕ) (row : vector_row.Row) → k < length rows → row ≡ get_or rows k row → P (candidate_for asked (k + n) row)) → AllByRecursion P (listed asked n rows)
-unfolding listed
-all-listed P asked n [] each = tt
-all-listed P asked n (row ∷ rows) each = (
+all-candidates_for : (P : Candidate → Type 0) (asked : List ℕ) (n : ℕ) (rows : List vector_row.Row) → ((k : ℕ) (row : vector_row.Row) → k < length rows → row ≡ get_or rows k row → P (candidate_for asked (k + n) row)) → AllByRecursion P (candidates_for asked n rows)
+unfolding candidates_for
+all-candidates_for P asked n [] each = tt
+all-candidates_for P asked n (row ∷ rows) each = (
   subst (λ (m : ℕ). P (candidate_for asked m row)) (let e : 0 + n ≡ n = omega arith in e) (each 0 row (omega arith) refl),
-  all-listed P asked (n + 1) rows (λ k r below at.
+  all-candidates_for P asked (n + 1) rows (λ k r below at.
       subst (λ (m : ℕ). P (candidate_for asked m r)) (let e : suc k + n ≡ k + (n + 1) = omega arith in e) (each (suc k) r (omega (arith, below)) at)),
 )
 
-at-listed : (object_at : ℕ → List ℕ) (asked : List ℕ) (n : ℕ) (rows : List vector_row.Row) → ((k : ℕ) (row : vector_row.Row) → k < length rows → row ≡ get_or rows k row → object_at (k + n) ≡ row.object)
-    → entries_at object_at (listed asked n rows) ≡ entries_of rows
-unfolding listed
-at-listed object_at asked n [] each = refl
-at-listed object_at asked n (row ∷ rows) each =
+at-candidates_for : (object_at : ℕ → List ℕ) (asked : List ℕ) (n : ℕ) (rows : List vector_row.Row) → ((k : ℕ) (row : vector_row.Row) → k < length rows → row ≡ get_or rows k row → object_at (k + n) ≡ row.object)
+    → entries_at object_at (candidates_for asked n rows) ≡ entries_of rows
+unfolding candidates_for
+at-candidates_for object_at asked n [] each = refl
+at-candidates_for object_at asked n (row ∷ rows) each =
     let first : object_at n ≡ row.object = subst (λ (m : ℕ). object_at m ≡ row.object) (let e : 0 + n ≡ n = omega arith in e) (each 0 row (omega arith) refl) in
-    let rest = at-listed object_at asked (n + 1) rows (λ k r below at.
+    let rest = at-candidates_for object_at asked (n + 1) rows (λ k r below at.
     subst (λ (m : ℕ). object_at m ≡ r.object) (let e : suc k + n ≡ k + (n + 1) = omega arith in e) (each (suc k) r (omega (arith, below)) at)) in
-    ap (λ (o : List ℕ). (row.id, o) ∷ entries_at object_at (listed asked (n + 1) rows)) first ∙ ap (λ es. entry_of row ∷ es) rest
+    ap (λ (o : List ℕ). (row.id, o) ∷ entries_at object_at (candidates_for asked (n + 1) rows)) first ∙ ap (λ es. entry_of row ∷ es) rest
 
 -- the object of the row at a place
-pub object-is : (rows : List vector_row.Row) (place : ℕ) (row : vector_row.Row) → place < length rows → row ≡ get_or rows place row → object_in rows place ≡ row.object
+pub object-is : (rows : List vector_row.Row) (place : ℕ) (row : vector_row.Row) → place < length rows → row ≡ get_or rows place row → object_at_place rows place ≡ row.object
 object-is rows place row within at = ap (λ (r : vector_row.Row). r.object) (get_or_default rows place (record { id = 0; object = []; vect = [] }) row within ∙ sym at)
 
 -- ---- the candidates of rows
@@ -79,75 +79,75 @@ not_less b d i h = grind (arith, nat_tests)
 not_under : (b d i : ℕ) → b ≤ d → goes_before (d, i) (b, i) ≡ false
 not_under b d i h = goes_before-is (d, i) (b, i) ∙ not_less b d i h
 
-pub whole-list : (asked : List ℕ) (rows : List vector_row.Row) (cs : List Candidate) → IsPermutation (listed asked 0 rows) cs → IsPermutation (entries_of rows) (entries_at (object_in rows) cs)
+pub whole-list : (asked : List ℕ) (rows : List vector_row.Row) (cs : List Candidate) → IsPermutation (candidates_for asked 0 rows) cs → IsPermutation (entries_of rows) (entries_at (object_at_place rows) cs)
 whole-list asked rows cs moved =
-    subst (λ es. IsPermutation es (entries_at (object_in rows) cs)) (at-listed (object_in rows) asked 0 rows (λ k row below at.
-    subst (λ (m : ℕ). object_in rows m ≡ row.object) (let e : k ≡ k + 0 = omega arith in e) (object-is rows k row below at))) (IsPermutation-map (entry_at (object_in rows)) _ cs moved)
+    subst (λ es. IsPermutation es (entries_at (object_at_place rows) cs)) (at-candidates_for (object_at_place rows) asked 0 rows (λ k row below at.
+    subst (λ (m : ℕ). object_at_place rows m ≡ row.object) (let e : k ≡ k + 0 = omega arith in e) (object-is rows k row below at))) (IsPermutation-map (entry_at (object_at_place rows)) _ cs moved)
 
-each-listed : (P : Candidate → Type 0) (asked : List ℕ) (rows : List vector_row.Row) → ((k : ℕ) (row : vector_row.Row) → k < length rows → row ≡ get_or rows k row → P (candidate_for asked k row)) → AllByRecursion P (listed asked 0 rows)
-each-listed P asked rows each = all-listed P asked 0 rows (λ k row below at. subst (λ (m : ℕ). P (candidate_for asked m row)) (let e : k ≡ k + 0 = omega arith in e) (each k row below at))
+each-candidates_for : (P : Candidate → Type 0) (asked : List ℕ) (rows : List vector_row.Row) → ((k : ℕ) (row : vector_row.Row) → k < length rows → row ≡ get_or rows k row → P (candidate_for asked k row)) → AllByRecursion P (candidates_for asked 0 rows)
+each-candidates_for P asked rows each = all-candidates_for P asked 0 rows (λ k row below at. subst (λ (m : ℕ). P (candidate_for asked m row)) (let e : k ≡ k + 0 = omega arith in e) (each k row below at))
 
 -- rows with different ids have different bounds with ids
-pub apart : (dist : List ℕ → List ℕ → ℕ) (pivots : List (List ℕ)) (query : List ℕ) (rows : List vector_row.Row) → AllPairs (λ (a b : vector_row.Row). a.id ≢ b.id) rows → HasDistinct (bound_of dist pivots query) (entries_of rows)
+pub apart : (dist : List ℕ → List ℕ → ℕ) (pivots : List (List ℕ)) (query : List ℕ) (rows : List vector_row.Row) → AllPairs (λ (a b : vector_row.Row). a.id ≢ b.id) rows → HasDistinctKeys (rank_bound dist pivots query) (entries_of rows)
 apart dist pivots query rows ids i j d less below same =
     let none : vector_row.Row = record { id = 0; object = []; vect = [] } in
     let long = length-map rows entry_of in
     let inside : j < length rows = omega (arith, below, long) in
     ids i j none less inside
-    (ap (λ (e : Row). e.0) (sym (get_or-map entry_of rows i none d (omega (arith, less, inside)))) ∙ ap (λ (b : ℕ × ℕ). b.1) same ∙ ap (λ (e : Row). e.0) (get_or-map entry_of rows j none d inside))
+    (ap (λ (e : Entry). e.0) (sym (get_or-map entry_of rows i none d (omega (arith, less, inside)))) ∙ ap (λ (b : ℕ × ℕ). b.1) same ∙ ap (λ (e : Entry). e.0) (get_or-map entry_of rows j none d inside))
 
 -- ---- rows that wait
 
-under-rows : (cs : List Candidate) → flat_map (under empty_nodes) (map waiting_for cs) ≡ cs
-under-rows [] = refl
-under-rows (c ∷ cs) = flat_map-cons (under empty_nodes) (waiting_for c) (map waiting_for cs) ∙ ap (λ ds. c ∷ ds) (under-rows cs)
+candidates_under-rows : (cs : List Candidate) → flat_map (candidates_under empty_nodes) (map as_waiting cs) ≡ cs
+candidates_under-rows [] = refl
+candidates_under-rows (c ∷ cs) = flat_map-cons (candidates_under empty_nodes) (as_waiting c) (map as_waiting cs) ∙ ap (λ ds. c ∷ ds) (candidates_under-rows cs)
 
-weight-rows : (cs : List Candidate) → sum_by (weight_of empty_nodes) (map waiting_for cs) ≡ length cs
+weight-rows : (cs : List Candidate) → sum_by (weight_of empty_nodes) (map as_waiting cs) ≡ length cs
 weight-rows [] = refl
-weight-rows (c ∷ cs) = let a = sum_by-cons (weight_of empty_nodes) (waiting_for c) (map waiting_for cs) in let b = weight-rows cs in omega (arith, a, b)
+weight-rows (c ∷ cs) = let a = sum_by-cons (weight_of empty_nodes) (as_waiting c) (map as_waiting cs) in let b = weight-rows cs in omega (arith, a, b)
 
-module _ (asked : List ℕ) (rows : List vector_row.Row) (items : List Waiting) (moved : IsPermutation (map waiting_for (listed asked 0 rows)) items) where
+module _ (asked : List ℕ) (rows : List vector_row.Row) (items : List Waiting) (moved : IsPermutation (map as_waiting (candidates_for asked 0 rows)) items) where
   -- the candidates are under them
-  under-items : IsPermutation (listed asked 0 rows) (flat_map (under empty_nodes) items)
-  under-items = subst (λ cs. IsPermutation cs (flat_map (under empty_nodes) items)) (under-rows (listed asked 0 rows)) (permutation-flat_map (under empty_nodes) (map waiting_for (listed asked 0 rows)) items moved)
+  candidates_under-items : IsPermutation (candidates_for asked 0 rows) (flat_map (candidates_under empty_nodes) items)
+  candidates_under-items = subst (λ cs. IsPermutation cs (flat_map (candidates_under empty_nodes) items)) (candidates_under-rows (candidates_for asked 0 rows)) (permutation-flat_map (candidates_under empty_nodes) (map as_waiting (candidates_for asked 0 rows)) items moved)
 
-  pub in-order : IsPermutation (listed asked 0 rows) (waiting empty_nodes items)
-  in-order = IsPermutation-trans _ _ _ under-items (permutation-arranged comes_first (flat_map (under empty_nodes) items))
+  pub in-order : IsPermutation (candidates_for asked 0 rows) (queued_candidates empty_nodes items)
+  in-order = IsPermutation-trans _ _ _ candidates_under-items (permutation-sorted_by candidate_is_before (flat_map (candidates_under empty_nodes) items))
 
   pub weight-is : sum_by (weight_of empty_nodes) items ≡ length rows
-  weight-is = sum_by-IsPermutation (weight_of empty_nodes) _ items moved ∙ weight-rows (listed asked 0 rows) ∙ length-listed asked 0 rows
+  weight-is = sum_by-IsPermutation (weight_of empty_nodes) _ items moved ∙ weight-rows (candidates_for asked 0 rows) ∙ length-candidates_for asked 0 rows
 
   -- each has its row
   pub have-rows : AllByRecursion (CanVisit (λ level place. Unit {0}) (λ place. place < length rows)) items
-  have-rows = all-moved _ _ items moved (all-map (CanVisit (λ level place. Unit {0}) (λ place. place < length rows)) waiting_for (listed asked 0 rows) (each-listed (λ (c : Candidate). c.place < length rows) asked rows (λ k row below at. below)))
+  have-rows = all-moved _ _ items moved (all-map (CanVisit (λ level place. Unit {0}) (λ place. place < length rows)) as_waiting (candidates_for asked 0 rows) (each-candidates_for (λ (c : Candidate). c.place < length rows) asked rows (λ k row below at. below)))
 
-  are-least : (cs : List Candidate) → AllByRecursion (IsLeast empty_nodes (λ level place. Unit {0})) (map waiting_for cs)
+  are-least : (cs : List Candidate) → AllByRecursion (IsLeast empty_nodes (λ level place. Unit {0})) (map as_waiting cs)
   are-least [] = tt
   are-least (c ∷ cs) = (record { objects = (omega arith, tt); bounds = tt; sound = tt }, are-least cs)
 
   -- no bound is too great
   pub are-bounds : (dist : List ℕ → List ℕ → ℕ) (query : List ℕ) → ((k : ℕ) (row : vector_row.Row) → k < length rows → row ≡ get_or rows k row → lower_bound asked row.vect ≤ dist query row.object)
-      → AreBounds dist (object_in rows) query empty_nodes (λ level place. Unit {0}) items
+      → AreBounds dist (object_at_place rows) query empty_nodes (λ level place. Unit {0}) items
   are-bounds dist query each = record {
     lower =
-        all-moved (λ (c : Candidate). goes_before (dist query (object_in rows c.place), c.id) (key_of c) ≡ false) _ _ under-items
-        (each-listed (λ (c : Candidate). goes_before (dist query (object_in rows c.place), c.id) (key_of c) ≡ false) asked rows (λ k row below at.
+        all-moved (λ (c : Candidate). goes_before (dist query (object_at_place rows c.place), c.id) (bound_rank c) ≡ false) _ _ candidates_under-items
+        (each-candidates_for (λ (c : Candidate). goes_before (dist query (object_at_place rows c.place), c.id) (bound_rank c) ≡ false) asked rows (λ k row below at.
         subst (λ (o : List ℕ). goes_before (dist query o, row.id) (lower_bound asked row.vect, row.id) ≡ false) (sym (object-is rows k row below at))
         (not_under (lower_bound asked row.vect) (dist query row.object) row.id (each k row below at))));
-    least = all-moved _ _ items moved (are-least (listed asked 0 rows));
+    least = all-moved _ _ items moved (are-least (candidates_for asked 0 rows));
   }
 
 module _ (dist : List ℕ → List ℕ → ℕ) (pivots : List (List ℕ)) (query : List ℕ) (rows : List vector_row.Row) where
   -- the key of a candidate is the bound of its row
-  pub keys-are : (cs : List Candidate) → IsPermutation (listed (vector_of dist pivots query) 0 rows) cs → All (λ (row : vector_row.Row). row.vect ≡ cells_of dist pivots row.object) rows
-      → All (λ (c : Candidate). key_of c ≡ bound_of dist pivots query (entry_at (object_in rows) c)) cs
+  pub keys-are : (cs : List Candidate) → IsPermutation (candidates_for (vector_of dist pivots query) 0 rows) cs → All (λ (row : vector_row.Row). row.vect ≡ cells_of dist pivots row.object) rows
+      → All (λ (c : Candidate). bound_rank c ≡ rank_bound dist pivots query (entry_at (object_at_place rows) c)) cs
   keys-are cs moved vects =
       let asked = vector_of dist pivots query in
-      All-from_recursion _ cs (all-moved (λ (c : Candidate). key_of c ≡ bound_of dist pivots query (entry_at (object_in rows) c)) _ cs moved
-      (each-listed (λ (c : Candidate). key_of c ≡ bound_of dist pivots query (entry_at (object_in rows) c)) asked rows (λ k row below at.
+      All-from_recursion _ cs (all-moved (λ (c : Candidate). bound_rank c ≡ rank_bound dist pivots query (entry_at (object_at_place rows) c)) _ cs moved
+      (each-candidates_for (λ (c : Candidate). bound_rank c ≡ rank_bound dist pivots query (entry_at (object_at_place rows) c)) asked rows (λ k row below at.
       let vect : row.vect ≡ cells_of dist pivots row.object = subst (λ (r : vector_row.Row). r.vect ≡ cells_of dist pivots r.object) (sym at) (vects k row below) in
-      let key : ◌≡◌ {A = ℕ × ℕ} (lower_bound asked row.vect, row.id) (bound_of dist pivots query (entry_of row)) = ap (λ v. (lower_bound asked v, row.id)) vect in
-      key ∙ ap (λ (o : List ℕ). bound_of dist pivots query (row.id, o)) (sym (object-is rows k row below at)))))
+      let key : ◌≡◌ {A = ℕ × ℕ} (lower_bound asked row.vect, row.id) (rank_bound dist pivots query (entry_of row)) = ap (λ v. (lower_bound asked v, row.id)) vect in
+      key ∙ ap (λ (o : List ℕ). rank_bound dist pivots query (row.id, o)) (sym (object-is rows k row below at)))))
 
   -- the bounds are those that the pivots set
   pub bounds-are : (admitted : List ℕ → Type 0) → All (λ (row : vector_row.Row). row.vect ≡ cells_of dist pivots row.object) rows → All (λ (row : vector_row.Row). admitted row.object) rows → admitted query → BoundsHold admitted dist pivots

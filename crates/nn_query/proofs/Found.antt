@@ -8,39 +8,39 @@ use Rattle.std.proofs.lemmas.List.Elements.{recursion_from_All, All-take, All-dr
 use Rattle.std.proofs.lemmas.List.Sorted.{IsPermutation-map, sum_by-IsPermutation}
 use Rattle.std.proofs.lemmas.List.Sums.{length-filter}
 use Rattle.std.proofs.lemmas.Bool.Decides.{nat_tests}
-use Rattle.answer_lists.specs.Order.{goes_before, arranged}
+use Rattle.answer_lists.specs.Order.{goes_before, sorted_by}
 use Rattle.answer_lists.specs.OrderLaws as laws
 use Rattle.answer_lists.specs.OrderLaws.{Pair}
 use Rattle.metric_laws.specs.Log.{each_with}
-use Rattle.spb_defs.specs.Scans.{Row, ranks_of, scan_near, kth_rank, bound_of, is_not_behind, near_evals, near_visits}
-use Rattle.nn_query.specs.Queue.{Candidate, key_of, before, Rises}
+use Rattle.spb_defs.specs.Scans.{Entry, ranks_of, scan_near, kth_rank, rank_bound, is_in_reach, near_evals, near_visits}
+use Rattle.nn_query.specs.Queue.{Candidate, bound_rank, count_before, IsSortedByBound}
 use Rattle.nn_query.specs.Visits.{entry_at, entries_at, objects_at, Visited}
-use Rattle.nn_query.proofs.Counting.{in_order-arranged, arranged-permuted, past, past-is, before-arranged}
+use Rattle.nn_query.proofs.Counting.{in_order-sorted_by, sorted_by-permuted, past, past-is, count_before-sorted_by}
 
 -- ---- the ranks
 
 module _ (dist : List ℕ → List ℕ → ℕ) (query : List ℕ) where
-  abbrev rank_of : Row → Pair
+  abbrev rank_of : Entry → Pair
   rank_of row = (dist query row.1, row.0)
 
-  ranks-permuted : (rows others : List Row) → IsPermutation rows others → arranged goes_before (ranks_of dist others query) ≡ arranged goes_before (ranks_of dist rows query)
-  ranks-permuted rows others moved = arranged-permuted (ranks_of dist rows query) (ranks_of dist others query) (IsPermutation-map rank_of rows others moved)
+  ranks-permuted : (rows others : List Entry) → IsPermutation rows others → sorted_by goes_before (ranks_of dist others query) ≡ sorted_by goes_before (ranks_of dist rows query)
+  ranks-permuted rows others moved = sorted_by-permuted (ranks_of dist rows query) (ranks_of dist others query) (IsPermutation-map rank_of rows others moved)
 
-  pub nearest-found : (object_at : ℕ → List ℕ) (entries : List Row) (cs : List Candidate) (k n : ℕ) (least : List Pair) → IsPermutation entries (entries_at object_at cs) → Visited dist object_at query cs k n least → least ≡ scan_near dist entries query k
+  pub nearest-found : (object_at : ℕ → List ℕ) (entries : List Entry) (cs : List Candidate) (k n : ℕ) (least : List Pair) → IsPermutation entries (entries_at object_at cs) → Visited dist object_at query cs k n least → least ≡ scan_near dist entries query k
   nearest-found object_at entries cs k n least moved visited = visited.first ∙ ap (take k) (ranks-permuted entries (entries_at object_at cs) moved)
 
-  not_behind-is : (pivots : List (List ℕ)) (last : Option Pair) (row : Row) → is_not_behind dist pivots query last row ≡ not (past last (bound_of dist pivots query row))
+  not_behind-is : (pivots : List (List ℕ)) (last : Option Pair) (row : Entry) → is_in_reach dist pivots query last row ≡ not (past last (rank_bound dist pivots query row))
   not_behind-is pivots None row = refl
   not_behind-is pivots (Some last) row = refl
 
   -- whether a row is behind is told by how many ranks go before its bound
-  told : (pivots : List (List ℕ)) (rows : List Row) (k : ℕ) (row : Row) → 1 ≤ k → is_not_behind dist pivots query (kth_rank dist rows query k) row ≡ not (nat_le k (before (bound_of dist pivots query row) (ranks_of dist rows query)))
+  told : (pivots : List (List ℕ)) (rows : List Entry) (k : ℕ) (row : Entry) → 1 ≤ k → is_in_reach dist pivots query (kth_rank dist rows query k) row ≡ not (nat_le k (count_before (rank_bound dist pivots query row) (ranks_of dist rows query)))
   told pivots rows k row some =
-      let b = bound_of dist pivots query row in
+      let b = rank_bound dist pivots query row in
       let ranks = ranks_of dist rows query in
       let one : suc (k - 1) ≡ k = omega (arith, some) in
       not_behind-is pivots (kth_rank dist rows query k) row
-      ∙ ap not (past-is b (k - 1) (arranged goes_before ranks) (in_order-arranged ranks) ∙ ap (λ n. nat_le n (before b (arranged goes_before ranks))) one ∙ ap (nat_le k) (before-arranged b ranks))
+      ∙ ap not (past-is b (k - 1) (sorted_by goes_before ranks) (in_order-sorted_by ranks) ∙ ap (λ n. nat_le n (count_before b (sorted_by goes_before ranks))) one ∙ ap (nat_le k) (count_before-sorted_by b ranks))
 
 few : (k n : ℕ) → n < k → not (nat_le k n) ≡ true
 few k n h = grind (arith, nat_tests)
@@ -60,24 +60,24 @@ dropped p f (x ∷ xs) all = ap (λ (b : Bool). if b then f x ∷ filter p (map 
 
 -- ---- what was looked at
 
-module _ (dist : List ℕ → List ℕ → ℕ) (pivots : List (List ℕ)) (query : List ℕ) (object_at : ℕ → List ℕ) (entries : List Row) (cs : List Candidate) (k n : ℕ) (least : List Pair)
-    (some : 1 ≤ k) (moved : IsPermutation entries (entries_at object_at cs)) (keys : All (λ (c : Candidate). key_of c ≡ bound_of dist pivots query (entry_at object_at c)) cs) (visited : Visited dist object_at query cs k n least) where
-  abbrev pub in_reach : Row → Bool
-  in_reach = is_not_behind dist pivots query (kth_rank dist entries query k)
+module _ (dist : List ℕ → List ℕ → ℕ) (pivots : List (List ℕ)) (query : List ℕ) (object_at : ℕ → List ℕ) (entries : List Entry) (cs : List Candidate) (k n : ℕ) (least : List Pair)
+    (some : 1 ≤ k) (moved : IsPermutation entries (entries_at object_at cs)) (keys : All (λ (c : Candidate). bound_rank c ≡ rank_bound dist pivots query (entry_at object_at c)) cs) (visited : Visited dist object_at query cs k n least) where
+  abbrev pub in_reach : Entry → Bool
+  in_reach = is_in_reach dist pivots query (kth_rank dist entries query k)
 
-  same-count : (b : Pair) → before b (ranks_of dist (entries_at object_at cs) query) ≡ before b (ranks_of dist entries query)
+  same-count : (b : Pair) → count_before b (ranks_of dist (entries_at object_at cs) query) ≡ count_before b (ranks_of dist entries query)
   same-count b = sum_by-IsPermutation _ _ _ (IsPermutation-map (rank_of dist query) entries (entries_at object_at cs) moved)
 
-  reach-is : (c : Candidate) → key_of c ≡ bound_of dist pivots query (entry_at object_at c) → in_reach (entry_at object_at c) ≡ not (nat_le k (before (key_of c) (ranks_of dist (entries_at object_at cs) query)))
+  reach-is : (c : Candidate) → bound_rank c ≡ rank_bound dist pivots query (entry_at object_at c) → in_reach (entry_at object_at c) ≡ not (nat_le k (count_before (bound_rank c) (ranks_of dist (entries_at object_at cs) query)))
   reach-is c key =
       told dist query pivots entries k (entry_at object_at c) some
-      ∙ ap (λ m. not (nat_le k m)) (ap (λ b. before b (ranks_of dist entries query)) (sym key) ∙ sym (same-count (key_of c)))
+      ∙ ap (λ m. not (nat_le k m)) (ap (λ b. count_before b (ranks_of dist entries query)) (sym key) ∙ sym (same-count (bound_rank c)))
 
   inside : All (λ (c : Candidate). in_reach (entry_at object_at c) ≡ true) (take n cs)
-  inside j d below = reach-is (get_or (take n cs) j d) (All-take (λ (c : Candidate). key_of c ≡ bound_of dist pivots query (entry_at object_at c)) n cs keys j d below) ∙ few k _ (visited.looked_at j d below)
+  inside j d below = reach-is (get_or (take n cs) j d) (All-take (λ (c : Candidate). bound_rank c ≡ rank_bound dist pivots query (entry_at object_at c)) n cs keys j d below) ∙ few k _ (visited.looked_at j d below)
 
   outside : All (λ (c : Candidate). in_reach (entry_at object_at c) ≡ false) (drop n cs)
-  outside j d below = reach-is (get_or (drop n cs) j d) (All-drop (λ (c : Candidate). key_of c ≡ bound_of dist pivots query (entry_at object_at c)) n cs keys j d below) ∙ many k _ (visited.left_out j d below)
+  outside j d below = reach-is (get_or (drop n cs) j d) (All-drop (λ (c : Candidate). bound_rank c ≡ rank_bound dist pivots query (entry_at object_at c)) n cs keys j d below) ∙ many k _ (visited.left_out j d below)
 
   -- those looked at are those in reach
   pub reached : filter in_reach (entries_at object_at cs) ≡ entries_at object_at (take n cs)
@@ -96,31 +96,31 @@ module _ (dist : List ℕ → List ℕ → ℕ) (pivots : List (List ℕ)) (quer
       let c : length (filter in_reach (entries_at object_at cs)) ≡ n = ap length reached ∙ length-map (take n cs) (entry_at object_at) ∙ length-take-le n cs visited.within in omega (arith, a, b, c)
 
   -- the objects that are looked at are those in reach, by their bounds and ids
-  module _ (distinct : laws.HasDistinct (bound_of dist pivots query) entries) (rises : Rises cs) where
-    bound-at : (i : ℕ) (none : Candidate) (d : Row) → i < length cs → key_of (get_or cs i none) ≡ bound_of dist pivots query (get_or (entries_at object_at cs) i d)
-    bound-at i none d inside = keys i none inside ∙ ap (bound_of dist pivots query) (sym (get_or-map (entry_at object_at) cs i none d inside))
+  module _ (distinct : laws.HasDistinctKeys (rank_bound dist pivots query) entries) (rises : IsSortedByBound cs) where
+    bound-at : (i : ℕ) (none : Candidate) (d : Entry) → i < length cs → bound_rank (get_or cs i none) ≡ rank_bound dist pivots query (get_or (entries_at object_at cs) i d)
+    bound-at i none d inside = keys i none inside ∙ ap (rank_bound dist pivots query) (sym (get_or-map (entry_at object_at) cs i none d inside))
 
-    bounds-rise : IsSortedBy (λ (a b : Row). goes_before (bound_of dist pivots query a) (bound_of dist pivots query b)) (entries_at object_at cs)
+    bounds-rise : IsSortedBy (λ (a b : Entry). goes_before (rank_bound dist pivots query a) (rank_bound dist pivots query b)) (entries_at object_at cs)
     bounds-rise j d low below =
         let none : Candidate = record { bound = 0; id = 0; place = 0 } in
         let long = length-map cs (entry_at object_at) in
         let later : j + 1 < length cs = omega (arith, below, long) in
-        ap (λ b. goes_before b (bound_of dist pivots query (get_or (entries_at object_at cs) j d))) (sym (bound-at (j + 1) none d later))
-        ∙ ap (goes_before (key_of (get_or cs (j + 1) none))) (sym (bound-at j none d (omega (arith, later))))
+        ap (λ b. goes_before b (rank_bound dist pivots query (get_or (entries_at object_at cs) j d))) (sym (bound-at (j + 1) none d later))
+        ∙ ap (goes_before (bound_rank (get_or cs (j + 1) none))) (sym (bound-at j none d (omega (arith, later))))
         ∙ rises j (j + 1) none (omega arith) later
 
     pub visits-found : each_with query pivots ++ each_with query (objects_at object_at (take n cs)) ≡ each_with query (near_visits dist pivots entries query k)
     unfolding near_visits
     visits-found =
-        let by = λ (a b : Row). goes_before (bound_of dist pivots query a) (bound_of dist pivots query b) in
-        let weak = laws.weak_by_key goes_before laws.pair_order (bound_of dist pivots query) in
-        let whole : entries_at object_at cs ≡ arranged by entries =
-        laws.arranged_by-unique goes_before laws.pair_order (bound_of dist pivots query) entries (entries_at object_at cs) moved distinct (laws.in_order-from_sorted by weak (entries_at object_at cs) bounds-rise) in
-        let rows : arranged by (filter in_reach entries) ≡ entries_at object_at (take n cs) =
-        laws.arranged_by-filter goes_before laws.pair_order (bound_of dist pivots query) in_reach entries ∙ ap (filter in_reach) (sym whole) ∙ reached in
+        let by = λ (a b : Entry). goes_before (rank_bound dist pivots query a) (rank_bound dist pivots query b) in
+        let weak = laws.weak_by_key goes_before laws.pair_order (rank_bound dist pivots query) in
+        let whole : entries_at object_at cs ≡ sorted_by by entries =
+        laws.arranged_by-unique goes_before laws.pair_order (rank_bound dist pivots query) entries (entries_at object_at cs) moved distinct (laws.in_order-from_sorted by weak (entries_at object_at cs) bounds-rise) in
+        let rows : sorted_by by (filter in_reach entries) ≡ entries_at object_at (take n cs) =
+        laws.arranged_by-filter goes_before laws.pair_order (rank_bound dist pivots query) in_reach entries ∙ ap (filter in_reach) (sym whole) ∙ reached in
         sym (map-append (λ (o : List ℕ). (query, o)) pivots (objects_at object_at (take n cs)))
-        ∙ ap (λ os. each_with query (pivots ++ os)) (objects-are (take n cs) ∙ ap (map (λ (row : Row). row.1)) (sym rows))
+        ∙ ap (λ os. each_with query (pivots ++ os)) (objects-are (take n cs) ∙ ap (map (λ (row : Entry). row.1)) (sym rows))
       where
-        objects-are : (xs : List Candidate) → objects_at object_at xs ≡ map (λ (row : Row). row.1) (entries_at object_at xs)
+        objects-are : (xs : List Candidate) → objects_at object_at xs ≡ map (λ (row : Entry). row.1) (entries_at object_at xs)
         objects-are [] = refl
         objects-are (x ∷ xs) = ap (λ os. object_at x.place ∷ os) (objects-are xs)

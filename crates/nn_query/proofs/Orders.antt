@@ -12,26 +12,26 @@ use Rattle.std.proofs.lemmas.Bool.{cases_Bool}
 use Rattle.std.proofs.lemmas.Bool.Decides.{nat_tests}
 use Rattle.std.proofs.lemmas.Cmp.{then_total, on_total, nat_cmp_total}
 use Rattle.std.proofs.lemmas.List.Sorted.{ranks_by, sorted_far}
-use Rattle.answer_lists.specs.Order.{goes_before, arranged}
-use Rattle.answer_lists.specs.OrderLaws.{IsOrder, Pair, goes_before-is, arranged-sorted}
+use Rattle.answer_lists.specs.Order.{goes_before, sorted_by}
+use Rattle.answer_lists.specs.OrderLaws.{IsStrictOrder, Pair, goes_before-is, sorted_by-sorted}
 use Rattle.nn_query.specs.contracts.queue.KindOrd.TheImpl as kind_order
 use Rattle.nn_query.specs.contracts.queue.WaitingOrd.TheImpl as waiting_order
 use Rattle.nn_query.specs.declared.queue.Kind.{Kind}
 use Rattle.nn_query.specs.declared.queue.Kind.TheVariants.{Node, Object}
 use Rattle.nn_query.specs.declared.queue.Waiting.{Waiting}
-use Rattle.nn_query.specs.Queue.{by_kind, by_fields, goes_first, least_id, key_at, before, IsShut, Candidate, comes_first, Rises}
-use Rattle.nn_query.proofs.Counting.{before-more}
+use Rattle.nn_query.specs.Queue.{kind_cmp, waiting_cmp, is_visited_before, least_id, least_rank, count_before, IsPruned, Candidate, candidate_is_before, IsSortedByBound}
+use Rattle.nn_query.proofs.Counting.{count_before-more}
 
 -- ---- the derived order
 
-kind-is : (j k : Kind) → kind_order.ghosts.cmp j k ≡ by_kind j k
+kind-is : (j k : Kind) → kind_order.ghosts.cmp j k ≡ kind_cmp j k
 kind-is (Node a) (Node b) = refl
 kind-is (Node a) (Object b) = refl
 kind-is (Object a) (Node b) = refl
 kind-is (Object a) (Object b) = refl
 
 -- the order that is derived is the one of the fields
-pub derived-is : (a b : Waiting) → waiting_order.ghosts.cmp a b ≡ by_fields a b
+pub derived-is : (a b : Waiting) → waiting_order.ghosts.cmp a b ≡ waiting_cmp a b
 derived-is a b = ap (λ o. ordering_then (nat_cmp a.bound b.bound) (ordering_then o (nat_cmp a.place b.place))) (kind-is a.kind b.kind)
 
 -- ---- orders by tests
@@ -49,7 +49,7 @@ is_lt-last false false = refl
 abbrev tested : ℕ → ℕ → ℕ → ℕ → ℕ → ℕ → Bool
 tested a b c x y z = nat_lt a x || ((a == x) && (nat_lt b y || ((b == y) && nat_lt c z)))
 
-first-is : (a b : Candidate) → comes_first a b ≡ tested a.bound a.id a.place b.bound b.id b.place
+first-is : (a b : Candidate) → candidate_is_before a b ≡ tested a.bound a.id a.place b.bound b.id b.place
 first-is a b =
     is_lt-then (nat_lt a.bound b.bound) (a.bound == b.bound) (ordering_then (nat_cmp a.id b.id) (nat_cmp a.place b.place))
     ∙ ap (λ t. nat_lt a.bound b.bound || ((a.bound == b.bound) && t)) (is_lt-then (nat_lt a.id b.id) (a.id == b.id) (nat_cmp a.place b.place)
@@ -67,13 +67,13 @@ tie (Object id) = id
 abbrev tested4 : ℕ → ℕ → ℕ → ℕ → ℕ → ℕ → ℕ → ℕ → Bool
 tested4 a b c d x y z u = nat_lt a x || ((a == x) && (nat_lt b y || ((b == y) && (nat_lt c z || ((c == z) && nat_lt d u)))))
 
-kind-then : (j k : Kind) (o : Ordering) → is_lt (ordering_then (by_kind j k) o) ≡ (nat_lt (rank j) (rank k) || ((rank j == rank k) && (nat_lt (tie j) (tie k) || ((tie j == tie k) && is_lt o))))
+kind-then : (j k : Kind) (o : Ordering) → is_lt (ordering_then (kind_cmp j k) o) ≡ (nat_lt (rank j) (rank k) || ((rank j == rank k) && (nat_lt (tie j) (tie k) || ((tie j == tie k) && is_lt o))))
 kind-then (Node a) (Node b) o = is_lt-then (nat_lt a b) (a == b) o
 kind-then (Node a) (Object b) o = refl
 kind-then (Object a) (Node b) o = refl
 kind-then (Object a) (Object b) o = is_lt-then (nat_lt a b) (a == b) o
 
-goes-is : (a b : Waiting) → goes_first a b ≡ tested4 a.bound (rank a.kind) (tie a.kind) a.place b.bound (rank b.kind) (tie b.kind) b.place
+goes-is : (a b : Waiting) → is_visited_before a b ≡ tested4 a.bound (rank a.kind) (tie a.kind) a.place b.bound (rank b.kind) (tie b.kind) b.place
 goes-is a b =
     is_lt-then (nat_lt a.bound b.bound) (a.bound == b.bound) _
     ∙ ap (λ t. nat_lt a.bound b.bound || ((a.bound == b.bound) && t)) (kind-then a.kind b.kind (nat_cmp a.place b.place)
@@ -102,16 +102,16 @@ same a b c x y z e f g =
 abbrev by_parts : Candidate → Candidate → Ordering
 by_parts a b = ordering_then (nat_cmp a.bound b.bound) (ordering_then (nat_cmp a.id b.id) (nat_cmp a.place b.place))
 
-part_order : IsStrictWeakOrder comes_first
+part_order : IsStrictWeakOrder candidate_is_before
 part_order = ranks_by (then_total (on_total (λ (c : Candidate). c.bound) nat_cmp_total) (then_total (on_total (λ (c : Candidate). c.id) nat_cmp_total) (on_total (λ (c : Candidate). c.place) nat_cmp_total))) (λ (c : Candidate). c)
 
-chained : (a b c : Candidate) → comes_first a b ≡ true → comes_first b c ≡ true → comes_first a c ≡ true
-chained a b c h k = elim (cases_Bool (comes_first a c)) [
+chained : (a b c : Candidate) → candidate_is_before a b ≡ true → candidate_is_before b c ≡ true → candidate_is_before a c ≡ true
+chained a b c h k = elim (cases_Bool (candidate_is_before a c)) [
   | inl less ↦ less
   | inr stays ↦ absurd (true≢false (sym k ∙ part_order.chain b a c (part_order.one_way a b h) stays))
 ]
 
-pub first_order : IsOrder comes_first
+pub first_order : IsStrictOrder candidate_is_before
 first_order = record {
   never_itself = λ a. first-is a a ∙ alone a.bound a.id a.place;
   transitive = chained;
@@ -134,15 +134,15 @@ outer Less y z h = h
 outer Equal y z h = inner y z h
 outer Greater y z h = refl
 
-sorted-rises : (cs : List Candidate) → IsSorted by_parts cs → Rises cs
+sorted-rises : (cs : List Candidate) → IsSorted by_parts cs → IsSortedByBound cs
 sorted-rises cs sorted i j d le below =
     let a = get_or cs j d in
     let b = get_or cs i d in
-    outer (nat_cmp a.bound b.bound) (nat_cmp a.id b.id) (nat_cmp a.place b.place) (sorted_far comes_first part_order cs sorted i j d le below)
+    outer (nat_cmp a.bound b.bound) (nat_cmp a.id b.id) (nat_cmp a.place b.place) (sorted_far candidate_is_before part_order cs sorted i j d le below)
 
 -- objects in order rise by bound and id
-pub arranged-rises : (cs : List Candidate) → Rises (arranged comes_first cs)
-arranged-rises cs = sorted-rises (arranged comes_first cs) (arranged-sorted comes_first part_order cs)
+pub sorted_by-rises : (cs : List Candidate) → IsSortedByBound (sorted_by candidate_is_before cs)
+sorted_by-rises cs = sorted-rises (sorted_by candidate_is_before cs) (sorted_by-sorted candidate_is_before part_order cs)
 
 -- ---- what waits, beside objects
 
@@ -156,15 +156,15 @@ object_less : (a c d x z u : ℕ) → tested4 a 1 c d x 1 z u ≡ false → test
 object_less a c d x z u h = grind (arith, nat_tests)
 
 -- an object goes first: a node that is left has a greater bound
-pub node-further : (bound level place other id at : ℕ) → goes_first (record { bound = bound; kind = Node level; place = place }) (record { bound = other; kind = Object id; place = at }) ≡ false → other < bound
+pub node-further : (bound level place other id at : ℕ) → is_visited_before (record { bound = bound; kind = Node level; place = place }) (record { bound = other; kind = Object id; place = at }) ≡ false → other < bound
 node-further bound level place other id at h =
     let w : Waiting = record { bound = bound; kind = Node level; place = place } in
     let f : Waiting = record { bound = other; kind = Object id; place = at } in
     node_less bound level place other id at (sym (goes-is w f) ∙ h)
 
 -- and no other object comes before it
-pub object-later : (bound id place other next at : ℕ) → goes_first (record { bound = bound; kind = Object id; place = place }) (record { bound = other; kind = Object next; place = at }) ≡ false
-    → comes_first (record { bound = bound; id = id; place = place }) (record { bound = other; id = next; place = at }) ≡ false
+pub object-later : (bound id place other next at : ℕ) → is_visited_before (record { bound = bound; kind = Object id; place = place }) (record { bound = other; kind = Object next; place = at }) ≡ false
+    → candidate_is_before (record { bound = bound; id = id; place = place }) (record { bound = other; id = next; place = at }) ≡ false
 object-later bound id place other next at h =
     let w : Waiting = record { bound = bound; kind = Object id; place = place } in
     let f : Waiting = record { bound = other; kind = Object next; place = at } in
@@ -173,7 +173,7 @@ object-later bound id place other next at h =
     first-is c d ∙ object_less bound id place other next at (sym (goes-is w f) ∙ h)
 
 -- what has a greater bound comes later
-pub bound-later : (c d : Candidate) → d.bound < c.bound → comes_first c d ≡ false
+pub bound-later : (c d : Candidate) → d.bound < c.bound → candidate_is_before c d ≡ false
 bound-later c d h = first-is c d ∙ greater c.bound c.id c.place d.bound d.id d.place h
 
 -- what doesn't go first has no key before: by the bound and the least id
@@ -194,8 +194,8 @@ key-test x a u p (Object z) (Object c) h = both x a u p z c h where
   both : (x a u p z c : ℕ) → tested4 x 1 z u a 1 c p ≡ false → (nat_lt x a || ((x == a) && nat_lt z c)) ≡ false
   both x a u p z c h = grind (arith, nat_tests)
 
-pub key-later : (f w : Waiting) → goes_first w f ≡ false → goes_before (key_at w) (key_at f) ≡ false
-key-later f w h = goes_before-is (key_at w) (key_at f) ∙ key-test w.bound f.bound w.place f.place w.kind f.kind (sym (goes-is w f) ∙ h)
+pub key-later : (f w : Waiting) → is_visited_before w f ≡ false → goes_before (least_rank w) (least_rank f) ≡ false
+key-later f w h = goes_before-is (least_rank w) (least_rank f) ∙ key-test w.bound f.bound w.place f.place w.kind f.kind (sym (goes-is w f) ∙ h)
 
 -- what has a key before goes first
 first-test : (a x p u : ℕ) (k j : Kind) → before_test a k x j ≡ true → tested4 x (rank j) (tie j) u a (rank k) (tie k) p ≡ false
@@ -219,10 +219,10 @@ less-or x y h = elim (cases_Bool (goes_before x y)) [
 ]
 
 -- what isn't shut out goes before what is
-pub open-first : (k : ℕ) (ranks : List Pair) (f w : Waiting) → before (key_at f) ranks < k → IsShut k ranks w → goes_first w f ≡ false
+pub open-first : (k : ℕ) (ranks : List Pair) (f w : Waiting) → count_before (least_rank f) ranks < k → IsPruned k ranks w → is_visited_before w f ≡ false
 open-first k ranks f w room shut =
-    let less : goes_before (key_at f) (key_at w) ≡ true = less-or (key_at f) (key_at w) (λ h. let a = before-more (key_at w) (key_at f) ranks h in omega (arith, a, room, shut)) in
-    goes-is w f ∙ first-test f.bound w.bound f.place w.place f.kind w.kind (sym (goes_before-is (key_at f) (key_at w)) ∙ less)
+    let less : goes_before (least_rank f) (least_rank w) ≡ true = less-or (least_rank f) (least_rank w) (λ h. let a = count_before-more (least_rank w) (least_rank f) ranks h in omega (arith, a, room, shut)) in
+    goes-is w f ∙ first-test f.bound w.bound f.place w.place f.kind w.kind (sym (goes_before-is (least_rank f) (least_rank w)) ∙ less)
 
 -- ---- the heap
 
@@ -231,6 +231,6 @@ abbrev pub turned_back : Reverse Waiting → Waiting
 turned_back turned = turned.0
 
 -- none of those that are left goes before the top
-pub top-first : (f : Waiting) (rest : List (Reverse Waiting)) → AllByRecursion (λ (r : Reverse Waiting). is_lt (waiting_order.ghosts.cmp r.0 f) ≡ false) rest → AllByRecursion (λ (w : Waiting). goes_first w f ≡ false) (map turned_back rest)
+pub top-first : (f : Waiting) (rest : List (Reverse Waiting)) → AllByRecursion (λ (r : Reverse Waiting). is_lt (waiting_order.ghosts.cmp r.0 f) ≡ false) rest → AllByRecursion (λ (w : Waiting). is_visited_before w f ≡ false) (map turned_back rest)
 top-first f [] all = tt
 top-first f (r ∷ rest) all = (sym (ap is_lt (derived-is r.0 f)) ∙ all.0, top-first f rest all.1)

@@ -1,9 +1,9 @@
 -- The least ranks of those that were seen.
 use Rattle.std.specs.Prelude.{ℕ, List}
 use Rattle.std.specs.BinaryHeap.{heap_items}
-use Rattle.answer_lists.specs.Order.{goes_before, arranged}
+use Rattle.answer_lists.specs.Order.{goes_before, sorted_by}
 use Rattle.nn_query.specs.declared.best.Best.{Best}
 
 -- the ranks that are kept, in order
 abbrev pub least_of : Best → List (ℕ × ℕ)
-least_of best = arranged goes_before (heap_items best.heap)
+least_of best = sorted_by goes_before (heap_items best.heap)

@@ -10,13 +10,13 @@ abbrev pub candidate_for : List ℕ → ℕ → vector_row.Row → Candidate
 candidate_for asked place row = record { bound = lower_bound asked row.vect; id = row.id; place = place }
 
 -- a candidate for each row, the first with this place
-unfoldable pub listed : List ℕ → ℕ → List vector_row.Row → List Candidate
-listed asked place [] = []
-listed asked place (row ∷ rows) = candidate_for asked place row ∷ listed asked (place + 1) rows
+unfoldable pub candidates_for : List ℕ → ℕ → List vector_row.Row → List Candidate
+candidates_for asked place [] = []
+candidates_for asked place (row ∷ rows) = candidate_for asked place row ∷ candidates_for asked (place + 1) rows
 
 -- the object of the row at a place
-abbrev pub object_in : List vector_row.Row → ℕ → List ℕ
-object_in rows place = (slice_index_or rows place (record { id = 0; object = []; vect = [] })).object
+abbrev pub object_at_place : List vector_row.Row → ℕ → List ℕ
+object_at_place rows place = (slice_index_or rows place (record { id = 0; object = []; vect = [] })).object
 
 -- nothing stands in the nodes over rows
 abbrev pub empty_nodes : Nodes

@@ -1,18 +1,18 @@
 -- What looking at nodes and objects in their order finds.
 use Rattle.std.specs.Prelude.{◌≡◌, ℕ, ◌<◌, ◌≤◌, false, List, ◌++◌, nat_lt, length, take, drop, map, count_by, sum_by, All, IsPermutation}
 use Rattle.std.specs.List.{AllByRecursion, flat_map}
-use Rattle.answer_lists.specs.Order.{goes_before, arranged}
-use Rattle.spb_defs.specs.Scans.{Row, ranks_of}
+use Rattle.answer_lists.specs.Order.{goes_before, sorted_by}
+use Rattle.spb_defs.specs.Scans.{Entry, ranks_of}
 use Rattle.nn_query.specs.declared.queue.Kind.{Kind}
 use Rattle.nn_query.specs.declared.queue.Kind.TheVariants.{Node, Object}
 use Rattle.nn_query.specs.declared.queue.Waiting.{Waiting}
-use Rattle.nn_query.specs.Queue.{Candidate, key_of, before, IsShut, Nodes, under, bounds_under, weight_of, waiting}
+use Rattle.nn_query.specs.Queue.{Candidate, bound_rank, count_before, IsPruned, Nodes, candidates_under, bounds_under, weight_of, queued_candidates}
 
 -- the id and the object of a candidate, where the objects stand at their places
-abbrev pub entry_at : (ℕ → List ℕ) → Candidate → Row
+abbrev pub entry_at : (ℕ → List ℕ) → Candidate → Entry
 entry_at object_at c = (c.id, object_at c.place)
 
-abbrev pub entries_at : (ℕ → List ℕ) → List Candidate → List Row
+abbrev pub entries_at : (ℕ → List ℕ) → List Candidate → List Entry
 entries_at object_at cs = map (entry_at object_at) cs
 
 abbrev pub objects_at : (ℕ → List ℕ) → List Candidate → List (List ℕ)
@@ -21,33 +21,33 @@ objects_at object_at cs = map (λ c. object_at c.place) cs
 -- ---- what waits
 
 -- a node may be opened, by its level and place, and an object may be measured, by its place
-abbrev pub may_visit : (ℕ → ℕ → Type 0) → (ℕ → Type 0) → ℕ → Kind → Type 0
-may_visit can_open can_measure place (Node level) = can_open level place
-may_visit can_open can_measure place (Object id) = can_measure place
+abbrev pub CanVisitKind : (ℕ → ℕ → Type 0) → (ℕ → Type 0) → ℕ → Kind → Type 0
+CanVisitKind can_open can_measure place (Node level) = can_open level place
+CanVisitKind can_open can_measure place (Object id) = can_measure place
 
 abbrev pub CanVisit : (ℕ → ℕ → Type 0) → (ℕ → Type 0) → Waiting → Type 0
-CanVisit can_open can_measure w = may_visit can_open can_measure w.place w.kind
+CanVisit can_open can_measure w = CanVisitKind can_open can_measure w.place w.kind
 
-abbrev pub sound_kind : (ℕ → ℕ → Type 0) → ℕ → Kind → Type 0
-sound_kind is_sound place (Node level) = is_sound level place
-sound_kind is_sound place (Object id) = Unit {0}
+abbrev pub IsSoundKind : (ℕ → ℕ → Type 0) → ℕ → Kind → Type 0
+IsSoundKind is_sound place (Node level) = is_sound level place
+IsSoundKind is_sound place (Object id) = Unit {0}
 
 -- nothing under it has a lesser bound, and that holds of each that stands in it
 pub record IsLeast (nodes : Nodes) (is_sound : ℕ → ℕ → Type 0) (w : Waiting) : Type 0 where
-  pub objects : AllByRecursion (λ (c : Candidate). w.bound ≤ c.bound) (under nodes w)
+  pub objects : AllByRecursion (λ (c : Candidate). w.bound ≤ c.bound) (candidates_under nodes w)
   pub bounds : AllByRecursion (λ (b : ℕ). w.bound ≤ b) (bounds_under nodes w)
-  pub sound : sound_kind is_sound w.place w.kind
+  pub sound : IsSoundKind is_sound w.place w.kind
 
 -- no bound is too great: neither that of an object for its distance, nor that of a node for what is under it
 pub record AreBounds (dist : List ℕ → List ℕ → ℕ) (object_at : ℕ → List ℕ) (query : List ℕ) (nodes : Nodes) (is_sound : ℕ → ℕ → Type 0) (items : List Waiting) : Type 0 where
-  pub lower : AllByRecursion (λ (c : Candidate). goes_before (dist query (object_at c.place), c.id) (key_of c) ≡ false) (flat_map (under nodes) items)
+  pub lower : AllByRecursion (λ (c : Candidate). goes_before (dist query (object_at c.place), c.id) (bound_rank c) ≡ false) (flat_map (candidates_under nodes) items)
   pub least : AllByRecursion (IsLeast nodes is_sound) items
 
 -- The node of this level at this place was opened: rows stand for it, and were put in, but for some that k of
 -- the ranks shut out.
-pub record Opens (nodes : Nodes) (is_sound : ℕ → ℕ → Type 0) (can_visit : Waiting → Type 0) (k : ℕ) (ranks : List (ℕ × ℕ)) (level place : ℕ) (old new : List Waiting) : Type 0 where
+pub record Expands (nodes : Nodes) (is_sound : ℕ → ℕ → Type 0) (can_visit : Waiting → Type 0) (k : ℕ) (ranks : List (ℕ × ℕ)) (level place : ℕ) (old new : List Waiting) : Type 0 where
   pub rows : List Waiting
-  pub objects : IsPermutation (nodes.objects level place) (flat_map (under nodes) rows)
+  pub objects : IsPermutation (nodes.objects level place) (flat_map (candidates_under nodes) rows)
   pub bounds : IsPermutation (nodes.bounds level place) (flat_map (bounds_under nodes) rows)
   pub lighter : sum_by (weight_of nodes) rows < nodes.weight level
   pub least : is_sound level place → AllByRecursion (IsLeast nodes is_sound) rows
@@ -56,20 +56,20 @@ pub record Opens (nodes : Nodes) (is_sound : ℕ → ℕ → Type 0) (can_visit 
   pub parts : IsPermutation rows (put_in ++ left_out)
   pub added : IsPermutation (put_in ++ old) new
   pub visitable : AllByRecursion can_visit put_in
-  pub shut : AllByRecursion (IsShut k ranks) left_out
+  pub shut : AllByRecursion (IsPruned k ranks) left_out
 
 -- ---- what was found
 
 -- how many nodes from the items on are in reach of the k-th of all objects under them: before the bound fewer than
 -- k ranks go
-abbrev pub reached : (List ℕ → List ℕ → ℕ) → (ℕ → List ℕ) → List ℕ → Nodes → ℕ → List Waiting → ℕ
-reached dist object_at query nodes k items =
-    count_by (λ b. nat_lt (before (b, 0) (ranks_of dist (entries_at object_at (waiting nodes items)) query)) k) (flat_map (bounds_under nodes) items)
+abbrev pub nodes_in_reach : (List ℕ → List ℕ → ℕ) → (ℕ → List ℕ) → List ℕ → Nodes → ℕ → List Waiting → ℕ
+nodes_in_reach dist object_at query nodes k items =
+    count_by (λ b. nat_lt (count_before (b, 0) (ranks_of dist (entries_at object_at (queued_candidates nodes items)) query)) k) (flat_map (bounds_under nodes) items)
 
 -- The first n candidates are those before whose bound and id fewer than k ranks of all candidates go, and the least
 -- ranks are the first k of all.
 pub record Visited (dist : List ℕ → List ℕ → ℕ) (object_at : ℕ → List ℕ) (query : List ℕ) (cs : List Candidate) (k n : ℕ) (least : List (ℕ × ℕ)) : Type 0 where
   pub within : n ≤ length cs
-  pub looked_at : All (λ (c : Candidate). before (key_of c) (ranks_of dist (entries_at object_at cs) query) < k) (take n cs)
-  pub left_out : All (λ (c : Candidate). k ≤ before (key_of c) (ranks_of dist (entries_at object_at cs) query)) (drop n cs)
-  pub first : least ≡ take k (arranged goes_before (ranks_of dist (entries_at object_at cs) query))
+  pub looked_at : All (λ (c : Candidate). count_before (bound_rank c) (ranks_of dist (entries_at object_at cs) query) < k) (take n cs)
+  pub left_out : All (λ (c : Candidate). k ≤ count_before (bound_rank c) (ranks_of dist (entries_at object_at cs) query)) (drop n cs)
+  pub first : least ≡ take k (sorted_by goes_before (ranks_of dist (entries_at object_at cs) query))

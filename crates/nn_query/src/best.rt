@@ -21,7 +21,7 @@ pub(crate) struct Best {
 
 impl Best {
     ghost use Rattle.std.specs.Prelude.{◌≡◌, [], OnOk, nat_le, take, count_by};
-    ghost use Rattle.answer_lists.specs.Order.{goes_before, placed};
+    ghost use Rattle.answer_lists.specs.Order.{goes_before, with_inserted};
     ghost use Rattle.nn_query.specs.Least.{least_of};
 
     /// None yet, and room for `most`.
@@ -52,7 +52,7 @@ impl Best {
     /// step in a heap, and less for a rank that is none of the least.
     pub(crate) fn put(&mut self, rank: (u32, u32)) -> Result<(), Memory>
         ensures most { self.new.most ≡ self.old.most }
-        ensures ranks { OnOk result (least_of self.new ≡ take self.old.most (placed goes_before rank (least_of self.old))) }
+        ensures ranks { OnOk result (least_of self.new ≡ take self.old.most (with_inserted goes_before rank (least_of self.old))) }
     {
         if self.shuts_out(rank) {
             return Ok(());

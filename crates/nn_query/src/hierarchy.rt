@@ -1,10 +1,10 @@
 //! What a search for the nearest goes through.
 ghost use Rattle.std.specs.Prelude.{◌≡◌, ℕ, ◌+◌, ◌-◌, ◌^◌, ◌<◌, ◌≤◌, [], ◌∷◌, List, IfOk, OnOk};
-ghost use Rattle.metric_laws.specs.Log.{Grew};
+ghost use Rattle.metric_laws.specs.Log.{LogExtends};
 ghost use Rattle.nn_query.specs.Items.{items_of};
 ghost use Rattle.nn_query.specs.Least.{least_of};
 ghost use Rattle.nn_query.specs.Queue.{Nodes};
-ghost use Rattle.nn_query.specs.Visits.{CanVisit, Opens};
+ghost use Rattle.nn_query.specs.Visits.{CanVisit, Expands};
 
 use crate::best::Best;
 use crate::queue::Queue;
@@ -51,7 +51,7 @@ pub(crate) trait Hierarchy {
         ensures kind { R.kind ruler.new ≡ R.kind ruler.old }
         ensures rises { R.count ruler.old ≤ R.count ruler.new }
         ensures count { OnOk result (R.count ruler.new ≡ R.count ruler.old + 1) }
-        ensures log { OnOk result (Grew (R.log ruler.old) (R.log ruler.new) ((q.now, object_at (content self.old) place) ∷ [])) };
+        ensures log { OnOk result (LogExtends (R.log ruler.old) (R.log ruler.new) ((q.now, object_at (content self.old) place) ∷ [])) };
 
     /// Puts what stands in the node of the level at the place into the queue; what the best shut out may
     /// be left out.
@@ -64,7 +64,7 @@ pub(crate) trait Hierarchy {
     ) -> Result<(), Self::Error>
         requires node { can_open (content self.old) level place }
         ensures kept { content self.new ≡ content self.old }
-        ensures rows { OnOk result (Opens (nodes (content self.old)) (is_sound (content self.old))
+        ensures rows { OnOk result (Expands (nodes (content self.old)) (is_sound (content self.old))
             (CanVisit (can_open (content self.old)) (can_measure (content self.old)))
             best.now.most (least_of best.now) level place (items_of queue.old) (items_of queue.new)) };
 }

@@ -1,12 +1,12 @@
 ghost use Rattle.std.specs.Prelude.{◌≡◌, [], ◌+◌, ◌^◌, ◌<◌, ◌≤◌, take, sum_by, IfOk, OnOk};
 ghost use Rattle.std.specs.List.{AllByRecursion};
-ghost use Rattle.metric_laws.specs.Log.{Grew, each_with};
+ghost use Rattle.metric_laws.specs.Log.{LogExtends, each_with};
 ghost use Rattle.spb_defs.specs.Scans.{near_answer, near_visits};
 ghost use Rattle.pivot_map.specs.Rows.{ArePivots, AreRows, entries_of};
 ghost use Rattle.nn_query.specs.Items.{items_of};
 ghost use Rattle.nn_query.specs.Least.{least_of};
-ghost use Rattle.nn_query.specs.Queue.{weight_of, waiting};
-ghost use Rattle.nn_query.specs.Visits.{objects_at, CanVisit, AreBounds, Visited, reached};
+ghost use Rattle.nn_query.specs.Queue.{weight_of, queued_candidates};
+ghost use Rattle.nn_query.specs.Visits.{objects_at, CanVisit, AreBounds, Visited, nodes_in_reach};
 
 use crate::best::Best;
 use crate::hierarchy::Hierarchy;
@@ -41,7 +41,7 @@ pub fn near_rows<R: Ruler>(
     requires room { R.count ruler.old < 2 ^ 63 }
     ensures answer { IfOk result (λ answer. answer ≡ near_answer (R.dist (R.kind ruler.old)) pivots.now (entries_of rows.now) q.now k) }
     ensures count { IfOk result (λ answer. R.count ruler.new ≡ R.count ruler.old + answer.evals) }
-    ensures log { OnOk result (Grew (R.log ruler.old) (R.log ruler.new)
+    ensures log { OnOk result (LogExtends (R.log ruler.old) (R.log ruler.new)
         (each_with q.now (near_visits (R.dist (R.kind ruler.old)) pivots.now (entries_of rows.now) q.now k))) }
     ensures rises { R.count ruler.old ≤ R.count ruler.new }
     ensures kind { R.kind ruler.new ≡ R.kind ruler.old }
@@ -83,14 +83,14 @@ fn visit_in_order<H: Hierarchy, R: Ruler>(
     requires none { least_of best.old ≡ [] }
     ensures visited { IfOk result (λ seen.
         AreBounds (R.dist (R.kind ruler.old)) (H.object_at (H.content held.old)) q.now (H.nodes (H.content held.old)) (H.is_sound (H.content held.old)) (items_of queue)
-        → Visited (R.dist (R.kind ruler.old)) (H.object_at (H.content held.old)) q.now (waiting (H.nodes (H.content held.old)) (items_of queue)) best.old.most seen.measured (least_of best.new)) }
+        → Visited (R.dist (R.kind ruler.old)) (H.object_at (H.content held.old)) q.now (queued_candidates (H.nodes (H.content held.old)) (items_of queue)) best.old.most seen.measured (least_of best.new)) }
     ensures opened { IfOk result (λ seen.
         AreBounds (R.dist (R.kind ruler.old)) (H.object_at (H.content held.old)) q.now (H.nodes (H.content held.old)) (H.is_sound (H.content held.old)) (items_of queue)
-        → seen.opened ≡ reached (R.dist (R.kind ruler.old)) (H.object_at (H.content held.old)) q.now (H.nodes (H.content held.old)) best.old.most (items_of queue)) }
+        → seen.opened ≡ nodes_in_reach (R.dist (R.kind ruler.old)) (H.object_at (H.content held.old)) q.now (H.nodes (H.content held.old)) best.old.most (items_of queue)) }
     ensures log { IfOk result (λ seen.
         AreBounds (R.dist (R.kind ruler.old)) (H.object_at (H.content held.old)) q.now (H.nodes (H.content held.old)) (H.is_sound (H.content held.old)) (items_of queue)
-        → Grew (R.log ruler.old) (R.log ruler.new)
-        (each_with q.now (objects_at (H.object_at (H.content held.old)) (take seen.measured (waiting (H.nodes (H.content held.old)) (items_of queue)))))) }
+        → LogExtends (R.log ruler.old) (R.log ruler.new)
+        (each_with q.now (objects_at (H.object_at (H.content held.old)) (take seen.measured (queued_candidates (H.nodes (H.content held.old)) (items_of queue)))))) }
     ensures few { IfOk result (λ seen. seen.measured + seen.opened ≤ sum_by (weight_of (H.nodes (H.content held.old))) (items_of queue)) }
     ensures count { IfOk result (λ seen. R.count ruler.new ≡ R.count ruler.old + seen.measured) }
     ensures rises { R.count ruler.old ≤ R.count ruler.new }

@@ -2,8 +2,8 @@
 ghost use Rattle.std.specs.Prelude.{◌≡◌, ◌^◌, ◌≤◌, length, map, All, IfOk};
 ghost use Rattle.std.specs.BinaryHeap.{IsHeap, heap_items};
 ghost use Rattle.std.proofs.Props.{props};
-ghost use Rattle.nn_query.specs.Queue.{key_at, waiting_for};
-ghost use Rattle.nn_query.specs.Listed.{listed};
+ghost use Rattle.nn_query.specs.Queue.{least_rank, as_waiting};
+ghost use Rattle.nn_query.specs.Listed.{candidates_for};
 
 use curve_laws::Vect;
 use pivot_map::{Row, lower};
@@ -34,7 +34,7 @@ impl Waiting {
     /// The least rank that an object under it may have: its bound, with the id of an object and 0 for a
     /// node.
     pub(crate) fn key(&self) -> (u32, u32)
-        ensures { result ≡ key_at self.now }
+        ensures { result ≡ least_rank self.now }
     {
         match self.kind {
             Kind::Node { .. } => (self.bound, 0),
@@ -53,14 +53,14 @@ pub(crate) struct Queue {
 impl Queue {
     ghost use Rattle.std.specs.Prelude.{false, [], ◌∷◌, IfSome, IfNone, IsPermutation};
     ghost use Rattle.std.specs.List.{AllByRecursion};
-    ghost use Rattle.nn_query.specs.Queue.{goes_first};
+    ghost use Rattle.nn_query.specs.Queue.{is_visited_before};
     ghost use Rattle.nn_query.specs.Items.{items_of};
 
     /// The objects of the rows. It takes time in proportion to the rows, and memory for 16 bytes each.
     pub(crate) fn of(alloc: Global, rows: &[Row], asked: &Vect) -> Result<Queue, Memory>
         requires few { length rows.now ≤ 2 ^ 31 }
         requires vects { All (λ (row : Row). length row.vect ≡ length asked.now) rows.now }
-        ensures { IfOk result (λ queue. IsPermutation (map waiting_for (listed asked.now 0 rows.now)) (items_of queue)) }
+        ensures { IfOk result (λ queue. IsPermutation (map as_waiting (candidates_for asked.now 0 rows.now)) (items_of queue)) }
     {
         let found = list(alloc, rows, asked)?;
         Ok(Queue {
@@ -71,7 +71,7 @@ impl Queue {
     /// Takes the first one out. It takes the time of a step in a heap.
     pub(crate) fn next(&mut self) -> Option<Waiting>
         ensures some { IfSome result (λ first. IsPermutation (items_of self.old) (first ∷ items_of self.new)) }
-        ensures first { IfSome result (λ first. AllByRecursion (λ w. goes_first w first ≡ false) (items_of self.new)) }
+        ensures first { IfSome result (λ first. AllByRecursion (λ w. is_visited_before w first ≡ false) (items_of self.new)) }
         ensures none { IfNone result (items_of self.old ≡ []) }
     {
         match self.heap.pop() {
@@ -85,7 +85,7 @@ impl Queue {
 fn list(alloc: Global, rows: &[Row], asked: &Vect) -> Result<Vec<Reverse<Waiting>>, Memory>
     requires few { length rows.now ≤ 2 ^ 31 }
     requires vects { All (λ (row : Row). length row.vect ≡ length asked.now) rows.now }
-    ensures { IfOk result (λ found. map (λ turned. turned.0) found.items ≡ map waiting_for (listed asked.now 0 rows.now)) }
+    ensures { IfOk result (λ found. map (λ turned. turned.0) found.items ≡ map as_waiting (candidates_for asked.now 0 rows.now)) }
 {
     let mut found = Vec::with_capacity(alloc, rows.len())?;
     for (place, row) in rows.iter().enumerate() {

@@ -1,7 +1,7 @@
 //! Rows, with nothing in a node over them.
 ghost use Rattle.std.specs.Prelude.{◌<◌, List, length, All};
 ghost use Rattle.pivot_map.specs.declared.row.Row as vector_row;
-ghost use Rattle.nn_query.specs.Listed.{object_in, empty_nodes};
+ghost use Rattle.nn_query.specs.Listed.{object_at_place, empty_nodes};
 
 use crate::best::Best;
 use crate::hierarchy::Hierarchy;
@@ -25,7 +25,7 @@ impl<'a> Hierarchy for Rows<'a> {
 
     ghost nodes = { λ rows. empty_nodes };
 
-    ghost object_at = { object_in };
+    ghost object_at = { object_at_place };
 
     ghost can_open = { λ rows level place. Unit {0} };
 

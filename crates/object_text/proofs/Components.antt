@@ -7,8 +7,8 @@ use Rattle.std.proofs.lemmas.Bool.Decides.{nat_tests}
 use Rattle.std.proofs.lemmas.List.{length-append, append-nil}
 use Rattle.std.proofs.lemmas.Grind.{flat_map-append}
 use Rattle.std.proofs.lemmas.List.Splits.{length-slice_split}
-use Rattle.metrics_builtin.specs.Vectors.{spelled}
-use Rattle.metrics_builtin.specs.VectorLaws.{length-spelled}
+use Rattle.metrics_builtin.specs.Vectors.{object_of_components}
+use Rattle.metrics_builtin.specs.VectorLaws.{length-object_of_components}
 use Rattle.spb_defs.specs.Numbers.{number_within}
 use Rattle.spb_defs.specs.ObjectText.{numbers_within, vector_with, vector_of_text}
 use Rattle.spb_defs.specs.NumberLaws.{number_within-whole}
@@ -37,7 +37,7 @@ completed-more dim most n ns word words e =
 other_length : (dim : ℕ) (ns : List ℕ) → (length ns ≡ dim → ⊥) → vector_with dim ns ≡ None
 other_length dim ns other =
     let test : (length ns == dim) ≡ false = grind (arith, nat_tests) in
-    ap (λ (b : Bool). cond b (Some (spelled ns)) None) test
+    ap (λ (b : Bool). cond b (Some (object_of_components ns)) None) test
 
 others : (dim many : ℕ) (ns : List ℕ) (read : Option (List ℕ)) → ((ms : List ℕ) → read ≡ Some ms → length ms ≡ many) → (length ns + many ≡ dim → ⊥) → option_and_then (λ ms. vector_with dim (ns ++ ms)) read ≡ None
 others dim many ns None h other = refl
@@ -50,11 +50,11 @@ others dim many ns (Some ms) h other =
 pub completed-other : (dim most : ℕ) (ns : List ℕ) (words : List (List ℕ)) → (length ns + length words ≡ dim → ⊥) → completed dim most ns words ≡ None
 completed-other dim most ns words other = others dim (length words) ns (numbers_within most words) (length-numbers_within most words) other
 
-pub completed-whole : (dim most : ℕ) (ns : List ℕ) → length ns ≡ dim → completed dim most ns [] ≡ Some (spelled ns)
+pub completed-whole : (dim most : ℕ) (ns : List ℕ) → length ns ≡ dim → completed dim most ns [] ≡ Some (object_of_components ns)
 completed-whole dim most ns e =
     let whole : ns ++ [] ≡ ns = append-nil ns in
     let test : (length ns == dim) ≡ true = grind (arith, nat_tests) in
-    ap (vector_with dim) whole ∙ ap (λ (b : Bool). cond b (Some (spelled ns)) None) test
+    ap (vector_with dim) whole ∙ ap (λ (b : Bool). cond b (Some (object_of_components ns)) None) test
 
 -- ---- the loop
 
@@ -62,16 +62,16 @@ completed-whole dim most ns e =
 pub record IsBegun (dim most done : ℕ) (object rest : List ℕ) (whole : Option (List ℕ)) : Type 0 where
   pub numbers : List ℕ
   pub count : length numbers + 1 ≡ done
-  pub bytes : object ≡ spelled numbers
+  pub bytes : object ≡ object_of_components numbers
   pub goes_on : whole ≡ completed dim most numbers (slice_split (λ b. b == 44) rest)
 
 pub begins : (dim most : ℕ) (object text : List ℕ) → object ≡ [] → IsBegun dim most 1 object text (vector_of_text dim most text)
-unfolding vector_of_text spelled
+unfolding vector_of_text object_of_components
 begins dim most object text e = record { numbers = []; count = refl; bytes = e; goes_on = refl }
 
 pub room : (dim most done : ℕ) (object rest : List ℕ) (whole : Option (List ℕ)) → IsBegun dim most done object rest whole → length object + 4 ≡ 4 * done
 room dim most done object rest whole b =
-    let long : length object ≡ 4 * length b.numbers = ap length b.bytes ∙ length-spelled b.numbers in
+    let long : length object ≡ 4 * length b.numbers = ap length b.bytes ∙ length-object_of_components b.numbers in
     let count = b.count in
     omega arith
 
@@ -85,9 +85,9 @@ pub fails : (dim most done : ℕ) (object rest : List ℕ) (whole : Option (List
 fails dim most done object rest whole word words b parts none =
     b.goes_on ∙ ap (completed dim most b.numbers) parts ∙ completed-none dim most b.numbers word words none
 
-pub spelled-push : (ns : List ℕ) (n : ℕ) → spelled (ns ++ n ∷ []) ≡ spelled ns ++ to_be_bytes w32 n
-unfolding spelled
-spelled-push ns n = flat_map-append (to_be_bytes w32) ns (n ∷ []) ∙ ap (λ (bytes : List ℕ). flat_map (to_be_bytes w32) ns ++ bytes) (append-nil (to_be_bytes w32 n))
+pub object_of_components-push : (ns : List ℕ) (n : ℕ) → object_of_components (ns ++ n ∷ []) ≡ object_of_components ns ++ to_be_bytes w32 n
+unfolding object_of_components
+object_of_components-push ns n = flat_map-append (to_be_bytes w32) ns (n ∷ []) ∙ ap (λ (bytes : List ℕ). flat_map (to_be_bytes w32) ns ++ bytes) (append-nil (to_be_bytes w32 n))
 
 pub goes_on : (dim most done n : ℕ) (object new rest word behind : List ℕ) (whole : Option (List ℕ)) → IsBegun dim most done object rest whole → slice_split (λ b. b == 44) rest ≡ word ∷ slice_split (λ b. b == 44) behind → number_within most word ≡ Some n → new ≡ object ++ to_be_bytes w32 n → IsBegun dim most (done + 1) new behind whole
 goes_on dim most done n object new rest word behind whole b parts some e =
@@ -96,7 +96,7 @@ goes_on dim most done n object new rest word behind whole b parts some e =
     record {
       numbers = b.numbers ++ n ∷ [];
       count = omega arith;
-      bytes = e ∙ ap (λ (bytes : List ℕ). bytes ++ to_be_bytes w32 n) b.bytes ∙ sym (spelled-push b.numbers n);
+      bytes = e ∙ ap (λ (bytes : List ℕ). bytes ++ to_be_bytes w32 n) b.bytes ∙ sym (object_of_components-push b.numbers n);
       goes_on = b.goes_on ∙ ap (completed dim most b.numbers) parts ∙ completed-more dim most n b.numbers word (slice_split (λ x. x == 44) behind) some;
     }
 
@@ -118,6 +118,6 @@ pub ends : (dim most done n : ℕ) (object new rest : List ℕ) (whole : Option 
 ends dim most done n object new rest whole b end some e =
     let pushed : length (b.numbers ++ n ∷ []) ≡ length b.numbers + 1 = length-append b.numbers (n ∷ []) in
     let count = b.count in
-    let bytes : new ≡ spelled (b.numbers ++ n ∷ []) = e ∙ ap (λ (bytes : List ℕ). bytes ++ to_be_bytes w32 n) b.bytes ∙ sym (spelled-push b.numbers n) in
+    let bytes : new ≡ object_of_components (b.numbers ++ n ∷ []) = e ∙ ap (λ (bytes : List ℕ). bytes ++ to_be_bytes w32 n) b.bytes ∙ sym (object_of_components-push b.numbers n) in
     b.goes_on ∙ ap (completed dim most b.numbers) (number_within-whole most n rest some) ∙ completed-more dim most n b.numbers rest [] some
     ∙ completed-whole dim most (b.numbers ++ n ∷ []) (omega arith) ∙ ap (λ (o : List ℕ). Some o) (sym bytes)

@@ -8,12 +8,12 @@ use Rattle.std.specs.Str.{bytes_eq}
 use Rattle.std.proofs.lemmas.Bool.{cases_lt}
 use Rattle.std.proofs.lemmas.Bool.Decides.{nat_tests}
 use Rattle.std.proofs.lemmas.List.{take_more, take_all, length_push, get_or-take, get_or_append_left, get_or_push, get_or_default}
-use Rattle.metrics_builtin.specs.Vectors.{spelled}
-use Rattle.metrics_builtin.specs.VectorLaws.{length-spelled}
+use Rattle.metrics_builtin.specs.Vectors.{object_of_components}
+use Rattle.metrics_builtin.specs.VectorLaws.{length-object_of_components}
 use Rattle.spb_defs.specs.Numbers.{number_within}
 use Rattle.spb_defs.specs.ObjectText.{numbers_within, numbers_in, is_rising, set_with, set_of_text}
 use Rattle.spb_defs.specs.TextLaws.{consed, length-numbers_within}
-use Rattle.object_text.proofs.Components.{spelled-push}
+use Rattle.object_text.proofs.Components.{object_of_components-push}
 use Rattle.spb_defs.specs.SetTexts.{of, rising_test}
 
 -- ---- numbers, word by word
@@ -61,14 +61,14 @@ pub record IsBegun (universe most done least : ℕ) (object text : List ℕ) : T
   pub numbers : List ℕ
   pub read : numbers_within (universe - 1) (take done (words_of text)) ≡ Some numbers
   pub count : length numbers ≡ done
-  pub bytes : object ≡ spelled numbers
+  pub bytes : object ≡ object_of_components numbers
   pub rising : IsStrictlyIncreasing numbers
   pub few : length numbers ≤ most
   pub first : done ≡ 0 → least ≡ 0
   pub last : (k : ℕ) → k + 1 ≡ done → least ≡ get_or numbers k 0 + 1
 
 pub begins : (universe most : ℕ) (object text : List ℕ) → object ≡ [] → IsBegun universe most 0 0 object text
-unfolding spelled
+unfolding object_of_components
 begins universe most object text e = record {
   numbers = [];
   read = refl;
@@ -98,7 +98,7 @@ none_read universe most text dash h =
 pub too_many : (universe most done least : ℕ) (object text : List ℕ) → bytes_eq text (codes "-") ≡ false → IsBegun universe most done least object text → done < length (words_of text) → length object ≡ 4 * most → set_of_text universe most text ≡ None
 too_many universe most done least object text dash b more full =
     none_read universe most text dash (λ ns e rising few.
-    let long : length object ≡ 4 * length b.numbers = ap length b.bytes ∙ length-spelled b.numbers in
+    let long : length object ≡ 4 * length b.numbers = ap length b.bytes ∙ length-object_of_components b.numbers in
     let count = b.count in
     omega (arith, length-numbers_within (universe - 1) (words_of text) ns e))
 
@@ -144,7 +144,7 @@ not_rising universe most done least element object text word dash b more is some
 
 pub room : (universe most done least : ℕ) (object text : List ℕ) → IsBegun universe most done least object text → (length object ≡ 4 * most → ⊥) → most ≤ 30 → length object + 4 ≤ 120
 room universe most done least object text b not_full few =
-    let long : length object ≡ 4 * length b.numbers = ap length b.bytes ∙ length-spelled b.numbers in
+    let long : length object ≡ 4 * length b.numbers = ap length b.bytes ∙ length-object_of_components b.numbers in
     let at_most = b.few in
     let other : length b.numbers ≡ most → ⊥ = λ e. not_full (long ∙ ap (λ n. 4 * n) e) in
     grind arith
@@ -152,7 +152,7 @@ room universe most done least object text b not_full few =
 pub goes_on : (universe most done more least element : ℕ) (object new text word : List ℕ) → IsBegun universe most done least object text → done < length (words_of text) → word ≡ get_or (words_of text) done word →
     number_within (universe - 1) word ≡ Some element → (element < least → ⊥) → (length object ≡ 4 * most → ⊥) → new ≡ object ++ to_be_bytes w32 element → more ≡ done + 1 → IsBegun universe most more (element + 1) new text
 goes_on universe most done more least element object new text word b inside is some high not_full e next =
-    let long : length object ≡ 4 * length b.numbers = ap length b.bytes ∙ length-spelled b.numbers in
+    let long : length object ≡ 4 * length b.numbers = ap length b.bytes ∙ length-object_of_components b.numbers in
     let at_most = b.few in
     let count = b.count in
     let other : length b.numbers ≡ most → ⊥ = λ same. not_full (long ∙ ap (λ n. 4 * n) same) in
@@ -163,7 +163,7 @@ goes_on universe most done more least element object new text word b inside is s
       numbers = b.numbers ++ element ∷ [];
       read = ap (numbers_within (universe - 1)) words ∙ numbers_push (universe - 1) (take done (words_of text)) word b.numbers element b.read some;
       count = omega arith;
-      bytes = e ∙ ap (λ (bytes : List ℕ). bytes ++ to_be_bytes w32 element) b.bytes ∙ sym (spelled-push b.numbers element);
+      bytes = e ∙ ap (λ (bytes : List ℕ). bytes ++ to_be_bytes w32 element) b.bytes ∙ sym (object_of_components-push b.numbers element);
       rising = rising_push b.numbers element b.rising (λ k end. let past : least ≡ get_or b.numbers k 0 + 1 = b.last k (omega arith) in grind arith);
       few = grind arith;
       first = λ z. absurd (omega arith);
@@ -179,7 +179,7 @@ ends universe most done least object text dash b end =
     let test : (nat_le (length b.numbers) most && is_rising b.numbers) ≡ true = ap (λ t. t && is_rising b.numbers) many ∙ rising_test b.numbers b.rising in
     ap (λ (t : Bool). cond t (Some []) (option_and_then (set_with most) (numbers_in (universe - 1) text))) dash
     ∙ ap (option_and_then (set_with most)) read
-    ∙ ap (λ (t : Bool). cond t (Some (spelled b.numbers)) None) test
+    ∙ ap (λ (t : Bool). cond t (Some (object_of_components b.numbers)) None) test
     ∙ ap (λ (o : List ℕ). Some o) (sym b.bytes)
 
 -- `-` alone is the set of no elements

@@ -4,7 +4,7 @@ use Rattle.object_text.specs.declared.objects.TextError.{TextError}
 use Rattle.object_text.specs.declared.objects.TextError.TheVariants as errors
 
 -- The answer is what the definition reads, and `BadObject` where it reads nothing, unless memory ran out.
-abbrev pub Reads : Result (List ℕ) TextError → Option (List ℕ) → Type 0
-Reads (Ok object) read = read ≡ Some object
-Reads (Err errors.BadObject) read = read ≡ None
-Reads (Err errors.Memory) read = Unit {0}
+abbrev pub ReadsObject : Result (List ℕ) TextError → Option (List ℕ) → Type 0
+ReadsObject (Ok object) read = read ≡ Some object
+ReadsObject (Err errors.BadObject) read = read ≡ None
+ReadsObject (Err errors.Memory) read = Unit {0}

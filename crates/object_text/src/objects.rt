@@ -4,7 +4,7 @@ ghost use Rattle.std.specs.Int.{w32, to_be_bytes};
 ghost use Rattle.metrics_builtin.specs.Space.{fits, IsValid};
 ghost use Rattle.spb_defs.specs.Numbers.{number_within};
 ghost use Rattle.spb_defs.specs.ObjectText.{vector_of_text, string_of_text, set_of_text, object_of};
-ghost use Rattle.object_text.specs.Reads.{Reads};
+ghost use Rattle.object_text.specs.Reads.{ReadsObject};
 
 use crate::numbers::number;
 use crate::parts::cut;
@@ -48,7 +48,7 @@ impl From<Memory> for TextError {
 /// `BadObject` where the text is not that of an object of the space. `Memory` where memory runs out.
 pub fn read_object(alloc: Global, space: &Space, text: &[u8]) -> Result<Bytes, TextError>
     requires { IsTrue (fits space.now) }
-    ensures exact { Reads result (object_of space.now text.now) }
+    ensures exact { ReadsObject result (object_of space.now text.now) }
     ensures valid { IfOk result (λ object. IsValid space.now object) }
 {
     let Some(object) = object_in(space, text) else {

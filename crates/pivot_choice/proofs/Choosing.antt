@@ -15,9 +15,9 @@ use Rattle.metric_laws.specs.Log.{each_with}
 use Rattle.spb_defs.specs.Pivots.{greatest}
 use Rattle.spb_defs.specs.Choice.{sample_at, worth, first_place, next_place, chosen_places, choice_evals}
 use Rattle.spb_defs.specs.Farthest.{IsFarthestFirst}
-use Rattle.pivot_choice.specs.Worths.{is_open, worth_with, open_samples, other_samples, choice_visits}
+use Rattle.pivot_choice.specs.Worths.{is_unchosen, updated_worth, unchosen_among_first, unchosen_samples, choice_visits}
 use Rattle.spb_defs.specs.ChoiceLaws.{greatest-cons, first_place-within, first_place-holds}
-use Rattle.pivot_choice.proofs.Passing.{worth_with-none, range-more, set-rise}
+use Rattle.pivot_choice.proofs.Passing.{updated_worth-none, range-more, set-rise}
 
 -- one more place of the choice
 pub chosen-more : (dist : List ℕ → List ℕ → ℕ) (samples : List (List ℕ)) (n : ℕ) → chosen_places dist samples (n + 1) ≡ chosen_places dist samples n ++ next_place dist samples (chosen_places dist samples n) ∷ []
@@ -44,12 +44,12 @@ evals-most m (suc (suc n)) few =
 
 pub visits-more : (dist : List ℕ → List ℕ → ℕ) (samples : List (List ℕ)) (n : ℕ) →
     choice_visits dist samples (n + 2)
-    ≡ choice_visits dist samples (n + 1) ++ each_with (sample_at samples (next_place dist samples (chosen_places dist samples n))) (other_samples samples (chosen_places dist samples (n + 1)))
+    ≡ choice_visits dist samples (n + 1) ++ each_with (sample_at samples (next_place dist samples (chosen_places dist samples n))) (unchosen_samples samples (chosen_places dist samples (n + 1)))
 visits-more dist samples n =
     let e : n + 2 ≡ suc (suc n) = omega arith in
     let f : suc n ≡ n + 1 = omega arith in
     ap (choice_visits dist samples) e
-    ∙ ap (λ (k : ℕ). choice_visits dist samples k ++ each_with (sample_at samples (next_place dist samples (chosen_places dist samples n))) (other_samples samples (chosen_places dist samples k))) f
+    ∙ ap (λ (k : ℕ). choice_visits dist samples k ++ each_with (sample_at samples (next_place dist samples (chosen_places dist samples n))) (unchosen_samples samples (chosen_places dist samples k))) f
 
 -- the place to choose, by the worths
 pub next-by-worths : (dist : List ℕ → List ℕ → ℕ) (samples : List (List ℕ)) (chosen worths : List ℕ) → length worths ≡ length samples → ((k : ℕ) → k < length samples → get_or worths k 0 ≡ worth dist samples chosen k) → first_place (greatest worths) worths ≡ next_place dist samples chosen
@@ -83,7 +83,7 @@ with-one-more : (a : Bool) (s d : ℕ) → (if a then 0 else 1 + (s + d)) ≡ (i
 with-one-more true s d = refl
 with-one-more false s d = grind (arith, nat_tests)
 
-pub worth-other : (dist : List ℕ → List ℕ → ℕ) (samples : List (List ℕ)) (chosen : List ℕ) (c k : ℕ) → c ≢ k → worth dist samples (chosen ++ c ∷ []) k ≡ worth_with dist samples c k (worth dist samples chosen k)
+pub worth-other : (dist : List ℕ → List ℕ → ℕ) (samples : List (List ℕ)) (chosen : List ℕ) (c k : ℕ) → c ≢ k → worth dist samples (chosen ++ c ∷ []) k ≡ updated_worth dist samples c k (worth dist samples chosen k)
 worth-other dist samples chosen c k differs =
     let any = any-more chosen c k ∙ ap (λ (b : Bool). list_any (λ (other : ℕ). other == k) chosen || b) (other-number c k differs) ∙ or-false (list_any (λ (other : ℕ). other == k) chosen) in
     let f = λ (other : ℕ). dist (sample_at samples other) (sample_at samples k) in
@@ -94,39 +94,39 @@ worth-other dist samples chosen c k differs =
     ∙ with-one-more (list_any (λ (other : ℕ). other == k) chosen) (sum_by f chosen) (f c)
 
 -- a place is open exactly if it isn't chosen
-open-when : (a : Bool) (s : ℕ) → is_open (if a then 0 else 1 + s) ≡ not a
+open-when : (a : Bool) (s : ℕ) → is_unchosen (if a then 0 else 1 + s) ≡ not a
 open-when true s = refl
 open-when false s = grind (arith, nat_tests)
 
-pub worth-open : (dist : List ℕ → List ℕ → ℕ) (samples : List (List ℕ)) (chosen : List ℕ) (k : ℕ) → is_open (worth dist samples chosen k) ≡ not (list_any (λ other. other == k) chosen)
+pub worth-open : (dist : List ℕ → List ℕ → ℕ) (samples : List (List ℕ)) (chosen : List ℕ) (k : ℕ) → is_unchosen (worth dist samples chosen k) ≡ not (list_any (λ other. other == k) chosen)
 worth-open dist samples chosen k = open-when (list_any (λ (other : ℕ). other == k) chosen) (sum_by (λ (other : ℕ). dist (sample_at samples other) (sample_at samples k)) chosen)
 
-worth_with-open : (dist : List ℕ → List ℕ → ℕ) (samples : List (List ℕ)) (c k w : ℕ) → is_open (worth_with dist samples c k w) ≡ is_open w
-worth_with-open dist samples c k w = grind (arith, nat_tests)
+updated_worth-open : (dist : List ℕ → List ℕ → ℕ) (samples : List (List ℕ)) (c k w : ℕ) → is_unchosen (updated_worth dist samples c k w) ≡ is_unchosen w
+updated_worth-open dist samples c k w = grind (arith, nat_tests)
 
 -- how many places are open
-count-cons : (x : ℕ) (xs : List ℕ) → count_by is_open (x ∷ xs) ≡ cond (is_open x) 1 0 + count_by is_open xs
-count-cons x xs = sum_by-cons (λ (w : ℕ). cond (is_open w) 1 0) x xs
+count-cons : (x : ℕ) (xs : List ℕ) → count_by is_unchosen (x ∷ xs) ≡ cond (is_unchosen x) 1 0 + count_by is_unchosen xs
+count-cons x xs = sum_by-cons (λ (w : ℕ). cond (is_unchosen w) 1 0) x xs
 
-count-first : (m : ℕ) → count_by is_open (replicate m 1) ≡ m
-count-first m = omega (arith, sum_by-replicate (λ (w : ℕ). cond (is_open w) 1 0) m 1)
+count-first : (m : ℕ) → count_by is_unchosen (replicate m 1) ≡ m
+count-first m = omega (arith, sum_by-replicate (λ (w : ℕ). cond (is_unchosen w) 1 0) m 1)
 
-count-taken : (worths : List ℕ) (c : ℕ) → c < length worths → 0 < get_or worths c 0 → count_by is_open (set worths c 0) + 1 ≡ count_by is_open worths
+count-taken : (worths : List ℕ) (c : ℕ) → c < length worths → 0 < get_or worths c 0 → count_by is_unchosen (set worths c 0) + 1 ≡ count_by is_unchosen worths
 count-taken worths c inside some =
-    let all : count_by is_open (set worths c 0) + cond (is_open (get_or worths c 0)) 1 0 ≡ count_by is_open worths + cond (is_open 0) 1 0 = sum_by-set (λ (w : ℕ). cond (is_open w) 1 0) worths c 0 0 inside in
-    let is : is_open (get_or worths c 0) ≡ true = grind (arith, nat_tests) in
-    ap (λ (b : Bool). count_by is_open (set worths c 0) + cond b 1 0) (sym is) ∙ all ∙ omega arith
+    let all : count_by is_unchosen (set worths c 0) + cond (is_unchosen (get_or worths c 0)) 1 0 ≡ count_by is_unchosen worths + cond (is_unchosen 0) 1 0 = sum_by-set (λ (w : ℕ). cond (is_unchosen w) 1 0) worths c 0 0 inside in
+    let is : is_unchosen (get_or worths c 0) ≡ true = grind (arith, nat_tests) in
+    ap (λ (b : Bool). count_by is_unchosen (set worths c 0) + cond b 1 0) (sym is) ∙ all ∙ omega arith
 
-count-same : (xs ys : List ℕ) → length xs ≡ length ys → ((k : ℕ) → k < length ys → is_open (get_or xs k 0) ≡ is_open (get_or ys k 0)) → count_by is_open xs ≡ count_by is_open ys
+count-same : (xs ys : List ℕ) → length xs ≡ length ys → ((k : ℕ) → k < length ys → is_unchosen (get_or xs k 0) ≡ is_unchosen (get_or ys k 0)) → count_by is_unchosen xs ≡ count_by is_unchosen ys
 count-same [] [] same each = refl
 count-same [] (y ∷ ys) same each = absurd (omega arith)
 count-same (x ∷ xs) [] same each = absurd (omega arith)
 count-same (x ∷ xs) (y ∷ ys) same each =
     let rest = count-same xs ys (omega arith) (λ (k : ℕ) (below : k < length ys). each (suc k) (omega arith)) in
-    let first : is_open x ≡ is_open y = each 0 (omega arith) in
-    count-cons x xs ∙ ap (λ (b : Bool). cond b 1 0 + count_by is_open xs) first ∙ ap (λ (n : ℕ). cond (is_open y) 1 0 + n) rest ∙ sym (count-cons y ys)
+    let first : is_unchosen x ≡ is_unchosen y = each 0 (omega arith) in
+    count-cons x xs ∙ ap (λ (b : Bool). cond b 1 0 + count_by is_unchosen xs) first ∙ ap (λ (n : ℕ). cond (is_unchosen y) 1 0 + n) rest ∙ sym (count-cons y ys)
 
-greatest-some : (xs : List ℕ) → 0 < count_by is_open xs → 0 < greatest xs
+greatest-some : (xs : List ℕ) → 0 < count_by is_unchosen xs → 0 < greatest xs
 greatest-some [] some = omega arith
 greatest-some (zero ∷ xs) some =
     let rest = greatest-some xs some in
@@ -155,7 +155,7 @@ pub record Choosing (dist : List ℕ → List ℕ → ℕ) (samples : List (List
   pub same_length : length worths ≡ length samples
   pub each : (k : ℕ) → k < length samples → get_or worths k 0 ≡ worth dist samples (chosen_places dist samples before) k
   pub low : (k : ℕ) → k < length samples → get_or worths k 0 ≤ 1 + before * 4294967295
-  pub open_ones : count_by is_open worths + before ≡ length samples
+  pub open_ones : count_by is_unchosen worths + before ≡ length samples
   pub is_next : chosen ≡ next_place dist samples (chosen_places dist samples before)
   pub within : chosen < length samples
   pub still : 0 < get_or worths chosen 0
@@ -193,7 +193,7 @@ chosen-by : (dist : List ℕ → List ℕ → ℕ) (samples : List (List ℕ)) (
     length worths ≡ length samples →
     ((k : ℕ) → k < length samples → get_or worths k 0 ≡ worth dist samples (chosen_places dist samples before) k) →
     ((k : ℕ) → k < length samples → get_or worths k 0 ≤ 1 + before * 4294967295) →
-    count_by is_open worths + before ≡ length samples →
+    count_by is_unchosen worths + before ≡ length samples →
     chosen ≡ first_place (greatest worths) worths →
     front ≡ chosen_places dist samples before →
     IsDistinct nat_eq front →
@@ -223,14 +223,14 @@ pub Choosing-start : (dist : List ℕ → List ℕ → ℕ) (samples : List (Lis
 Choosing-start dist samples worths places chosen some ones best more =
     let each : (k : ℕ) → k < length samples → get_or worths k 0 ≡ 1 = λ (k : ℕ) (below : k < length samples). ap (λ (ws : List ℕ). get_or ws k 0) ones ∙ get_or-replicate (length samples) k 1 0 below in
     let worth_is : (k : ℕ) → worth dist samples (chosen_places dist samples 0) k ≡ 1 = λ (k : ℕ). ap (λ (cs : List ℕ). worth dist samples cs k) (chosen-none dist samples) in
-    let count : count_by is_open worths ≡ length samples = ap (count_by is_open) ones ∙ count-first (length samples) in
+    let count : count_by is_unchosen worths ≡ length samples = ap (count_by is_unchosen) ones ∙ count-first (length samples) in
     chosen-by dist samples 0 worths places [] chosen some (ap length ones ∙ length-replicate (length samples) 1)
     (λ (k : ℕ) (below : k < length samples). each k below ∙ sym (worth_is k))
     (λ (k : ℕ) (below : k < length samples). omega (arith, each k below))
     (omega arith) best (sym (chosen-none dist samples)) none-distinct more
 
 -- what the places are worth once the chosen one is taken out and its distances are added
-pub taken : (dist : List ℕ → List ℕ → ℕ) (samples : List (List ℕ)) (before : ℕ) (worths places : List ℕ) (chosen : ℕ) → Choosing dist samples before worths places chosen → (k : ℕ) → k < length samples → worth_with dist samples chosen k (get_or (set worths chosen 0) k 0) ≡ worth dist samples (chosen_places dist samples (before + 1)) k
+pub taken : (dist : List ℕ → List ℕ → ℕ) (samples : List (List ℕ)) (before : ℕ) (worths places : List ℕ) (chosen : ℕ) → Choosing dist samples before worths places chosen → (k : ℕ) → k < length samples → updated_worth dist samples chosen k (get_or (set worths chosen 0) k 0) ≡ worth dist samples (chosen_places dist samples (before + 1)) k
 taken dist samples before worths places chosen kept k below = either (chosen == k) refl
   where
     front : List ℕ
@@ -239,31 +239,31 @@ taken dist samples before worths places chosen kept k below = either (chosen == 
     after : worth dist samples (chosen_places dist samples (before + 1)) k ≡ worth dist samples (chosen_places dist samples before ++ chosen ∷ []) k
     after = ap (λ (cs : List ℕ). worth dist samples cs k) (chosen-more dist samples before ∙ ap (λ (c : ℕ). chosen_places dist samples before ++ c ∷ []) (sym kept.is_next))
 
-    either : (b : Bool) → (chosen == k) ≡ b → worth_with dist samples chosen k (get_or (set worths chosen 0) k 0) ≡ worth dist samples (chosen_places dist samples (before + 1)) k
+    either : (b : Bool) → (chosen == k) ≡ b → updated_worth dist samples chosen k (get_or (set worths chosen 0) k 0) ≡ worth dist samples (chosen_places dist samples (before + 1)) k
     either true is =
         let same : chosen ≡ k = grind (arith, nat_tests) in
         let none : get_or (set worths chosen 0) k 0 ≡ 0 = ap (λ (j : ℕ). get_or (set worths chosen 0) j 0) (sym same) ∙ get_or-set_same worths chosen 0 0 (omega (arith, kept.same_length, kept.within)) in
-        worth_with-none dist samples chosen k _ none ∙ sym (after ∙ worth-taken dist samples front chosen k same)
+        updated_worth-none dist samples chosen k _ none ∙ sym (after ∙ worth-taken dist samples front chosen k same)
     either false is =
         let differs : chosen ≢ k = λ (e : chosen ≡ k). grind (arith, nat_tests) in
         let apart : k ≢ chosen = λ (e : k ≡ chosen). differs (sym e) in
         let as_before : get_or (set worths chosen 0) k 0 ≡ worth dist samples front k = get_or-set_other worths chosen k 0 0 apart ∙ kept.each k below in
-        ap (worth_with dist samples chosen k) as_before ∙ sym (after ∙ worth-other dist samples front chosen k differs)
+        ap (updated_worth dist samples chosen k) as_before ∙ sym (after ∙ worth-other dist samples front chosen k differs)
 
-pub others : (dist : List ℕ → List ℕ → ℕ) (samples : List (List ℕ)) (before : ℕ) (worths places : List ℕ) (chosen : ℕ) → Choosing dist samples before worths places chosen → open_samples (set worths chosen 0) samples (length samples) ≡ other_samples samples (chosen_places dist samples (before + 1))
+pub others : (dist : List ℕ → List ℕ → ℕ) (samples : List (List ℕ)) (before : ℕ) (worths places : List ℕ) (chosen : ℕ) → Choosing dist samples before worths places chosen → unchosen_among_first (set worths chosen 0) samples (length samples) ≡ unchosen_samples samples (chosen_places dist samples (before + 1))
 others dist samples before worths places chosen kept =
     let after = chosen_places dist samples (before + 1) in
     let each = λ (k : ℕ) (below : k < length samples).
-    sym (worth_with-open dist samples chosen k (get_or (set worths chosen 0) k 0))
-    ∙ ap is_open (taken dist samples before worths places chosen kept k below)
+    sym (updated_worth-open dist samples chosen k (get_or (set worths chosen 0) k 0))
+    ∙ ap is_unchosen (taken dist samples before worths places chosen kept k below)
     ∙ worth-open dist samples after k in
-    ap (map (sample_at samples)) (filter-same (λ (k : ℕ). is_open (get_or (set worths chosen 0) k 0)) (λ (k : ℕ). not (list_any (λ (other : ℕ). other == k) after)) (length samples) each)
+    ap (map (sample_at samples)) (filter-same (λ (k : ℕ). is_unchosen (get_or (set worths chosen 0) k 0)) (λ (k : ℕ). not (list_any (λ (other : ℕ). other == k) after)) (length samples) each)
 
 pub Choosing-more : (dist : List ℕ → List ℕ → ℕ) (samples : List (List ℕ)) (before : ℕ) (worths places : List ℕ) (chosen : ℕ) (after more : List ℕ) (next : ℕ) →
     Choosing dist samples before worths places chosen →
     before + 1 < length samples →
     length after ≡ length (set worths chosen 0) →
-    ((k : ℕ) → k < length after → get_or after k 0 ≡ worth_with dist samples chosen k (get_or (set worths chosen 0) k 0)) →
+    ((k : ℕ) → k < length after → get_or after k 0 ≡ updated_worth dist samples chosen k (get_or (set worths chosen 0) k 0)) →
     ((k : ℕ) → k < length after → get_or after k 0 ≤ get_or (set worths chosen 0) k 0 + 4294967295) →
     next ≡ first_place (greatest after) after →
     more ≡ places ++ next ∷ [] →
@@ -273,7 +273,7 @@ Choosing-more dist samples before worths places chosen after more next kept room
     let length_is : length after ≡ length samples = same ∙ length-set worths chosen 0 ∙ kept.same_length in
     let one_less = count-taken worths chosen inside kept.still in
     let as_many = count-same after (set worths chosen 0) same (λ (k : ℕ) (below : k < length (set worths chosen 0)).
-    ap is_open (each k (omega arith)) ∙ worth_with-open dist samples chosen k (get_or (set worths chosen 0) k 0)) in
+    ap is_unchosen (each k (omega arith)) ∙ updated_worth-open dist samples chosen k (get_or (set worths chosen 0) k 0)) in
     let open_ones = kept.open_ones in
     chosen-by dist samples (before + 1) after more places next room length_is
     (λ (k : ℕ) (below : k < length samples). each k (omega arith) ∙ taken dist samples before worths places chosen kept k below)
@@ -285,7 +285,7 @@ Choosing-more dist samples before worths places chosen after more next kept room
     (omega arith) best kept.places_are kept.distinct more_is
 
 -- how many distances the pass measures
-pub count-pass : (dist : List ℕ → List ℕ → ℕ) (samples : List (List ℕ)) (before : ℕ) (worths places : List ℕ) (chosen : ℕ) → Choosing dist samples before worths places chosen → choice_evals (length samples) (before + 1) + count_by is_open (set worths chosen 0) ≡ choice_evals (length samples) (before + 1 + 1)
+pub count-pass : (dist : List ℕ → List ℕ → ℕ) (samples : List (List ℕ)) (before : ℕ) (worths places : List ℕ) (chosen : ℕ) → Choosing dist samples before worths places chosen → choice_evals (length samples) (before + 1) + count_by is_unchosen (set worths chosen 0) ≡ choice_evals (length samples) (before + 1 + 1)
 count-pass dist samples before worths places chosen kept =
     let inside : chosen < length worths = omega (arith, kept.same_length, kept.within) in
     let one_less = count-taken worths chosen inside kept.still in
@@ -296,7 +296,7 @@ count-pass dist samples before worths places chosen kept =
 
 -- and which
 pub visits-pass : (dist : List ℕ → List ℕ → ℕ) (samples : List (List ℕ)) (before : ℕ) (worths places : List ℕ) (chosen : ℕ) → Choosing dist samples before worths places chosen →
-    choice_visits dist samples (before + 1) ++ each_with (sample_at samples chosen) (open_samples (set worths chosen 0) samples (length samples))
+    choice_visits dist samples (before + 1) ++ each_with (sample_at samples chosen) (unchosen_among_first (set worths chosen 0) samples (length samples))
     ≡ choice_visits dist samples (before + 1 + 1)
 visits-pass dist samples before worths places chosen kept =
     let e : before + 1 + 1 ≡ before + 2 = omega arith in
@@ -304,5 +304,5 @@ visits-pass dist samples before worths places chosen kept =
     sym (
     ap (choice_visits dist samples) e
     ∙ visits-more dist samples before
-    ∙ ap (λ (c : ℕ). front ++ each_with (sample_at samples c) (other_samples samples (chosen_places dist samples (before + 1)))) (sym kept.is_next)
+    ∙ ap (λ (c : ℕ). front ++ each_with (sample_at samples c) (unchosen_samples samples (chosen_places dist samples (before + 1)))) (sym kept.is_next)
     ∙ ap (λ (os : List (List ℕ)). front ++ each_with (sample_at samples chosen) os) (sym (others dist samples before worths places chosen kept)))

@@ -1,10 +1,10 @@
 ghost use Rattle.std.specs.Prelude.{◌≡◌, ℕ, ◌+◌, ◌^◌, ◌<◌, ◌≤◌, nat_eq, List, length, replicate, slice_index, count_by, All, EachIndex, IfOk, OnOk};
 ghost use Rattle.std.specs.List.{IsDistinct};
-ghost use Rattle.metric_laws.specs.Log.{Grew, each_with};
+ghost use Rattle.metric_laws.specs.Log.{LogExtends, each_with};
 ghost use Rattle.spb_defs.specs.Pivots.{greatest};
 ghost use Rattle.spb_defs.specs.Choice.{sample_at, first_place, chosen_places, choice_evals};
 ghost use Rattle.spb_defs.specs.Farthest.{IsFarthestFirst};
-ghost use Rattle.pivot_choice.specs.Worths.{is_open, worth_with, open_samples, choice_visits};
+ghost use Rattle.pivot_choice.specs.Worths.{is_unchosen, updated_worth, unchosen_among_first, choice_visits};
 
 use metric_laws::Ruler;
 use pivot_map::Ids;
@@ -37,7 +37,7 @@ pub fn choose<R: Ruler>(
     ensures farthest { IfOk result (λ places. IsFarthestFirst (R.dist (R.kind ruler.old)) sample.now places) }
     ensures count { OnOk result (R.count ruler.new ≡ R.count ruler.old + choice_evals (length sample.now) n) }
     ensures rises { R.count ruler.old ≤ R.count ruler.new }
-    ensures log { OnOk result (Grew (R.log ruler.old) (R.log ruler.new) (choice_visits (R.dist (R.kind ruler.old)) sample.now n)) }
+    ensures log { OnOk result (LogExtends (R.log ruler.old) (R.log ruler.new) (choice_visits (R.dist (R.kind ruler.old)) sample.now n)) }
     ensures kind { R.kind ruler.new ≡ R.kind ruler.old }
 {
     if n == 0 {
@@ -68,7 +68,7 @@ fn choose_by_worth<R: Ruler>(
     ensures distinct { IfOk result (λ places. IsDistinct nat_eq places) }
     ensures count { OnOk result (R.count ruler.new ≡ R.count ruler.old + choice_evals (length sample.now) n) }
     ensures rises { R.count ruler.old ≤ R.count ruler.new }
-    ensures log { OnOk result (Grew (R.log ruler.old) (R.log ruler.new) (choice_visits (R.dist (R.kind ruler.old)) sample.now n)) }
+    ensures log { OnOk result (LogExtends (R.log ruler.old) (R.log ruler.new) (choice_visits (R.dist (R.kind ruler.old)) sample.now n)) }
     ensures kind { R.kind ruler.new ≡ R.kind ruler.old }
 {
     let mut chosen = best_place(worths);
@@ -108,10 +108,10 @@ fn add_distances<R: Ruler>(ruler: &mut R, sample: &[Bytes], chosen: usize, worth
     requires objects { All (R.admitted (R.kind ruler.old)) sample.now }
     requires room { R.count ruler.old + length sample.now < 2 ^ 64 }
     ensures length { length worths.new ≡ length worths.old }
-    ensures worths { EachIndex worths.new (λ place. slice_index worths.new place ≡ worth_with (R.dist (R.kind ruler.old)) sample.now chosen place (slice_index worths.old place)) }
+    ensures worths { EachIndex worths.new (λ place. slice_index worths.new place ≡ updated_worth (R.dist (R.kind ruler.old)) sample.now chosen place (slice_index worths.old place)) }
     ensures rise { EachIndex worths.new (λ place. slice_index worths.new place ≤ slice_index worths.old place + 4294967295) }
-    ensures count { R.count ruler.new ≡ R.count ruler.old + count_by is_open worths.old }
-    ensures log { Grew (R.log ruler.old) (R.log ruler.new) (each_with (sample_at sample.now chosen) (open_samples worths.old sample.now (length sample.now))) }
+    ensures count { R.count ruler.new ≡ R.count ruler.old + count_by is_unchosen worths.old }
+    ensures log { LogExtends (R.log ruler.old) (R.log ruler.new) (each_with (sample_at sample.now chosen) (unchosen_among_first worths.old sample.now (length sample.now))) }
     ensures kind { R.kind ruler.new ≡ R.kind ruler.old }
 {
     let from = sample[chosen].as_slice();

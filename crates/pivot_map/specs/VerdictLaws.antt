@@ -5,19 +5,19 @@ use Rattle.pivot_map.specs.declared.verdict.PairTest.{PairTest}
 use Rattle.pivot_map.specs.declared.verdict.PairTest.TheVariants.{Apart, Open, Sure}
 use Rattle.pivot_map.specs.Bounds.{BoundsHold}
 use Rattle.pivot_map.specs.BoundLaws.{pair_meets-symmetric, pair_is_sure-symmetric}
-use Rattle.pivot_map.specs.Verdicts.{verdict, query_verdict, pair_verdict, Tells, Settles}
+use Rattle.pivot_map.specs.Verdicts.{verdict, query_verdict, pair_verdict, IsTestOf, IsSoundTest}
 
-tells-of : (met sure : Bool) → Tells (verdict met sure) met sure
+tells-of : (met sure : Bool) → IsTestOf (verdict met sure) met sure
 tells-of false sure = refl
 tells-of true false = (refl, refl)
 tells-of true true = (refl, refl)
 
 -- the verdict on a query and an object tells the two tests
-pub query-tells : (asked cells : List ℕ) (radius : ℕ) → Tells (query_verdict asked radius cells) (meets asked radius cells) (is_sure asked radius cells)
+pub query-tells : (asked cells : List ℕ) (radius : ℕ) → IsTestOf (query_verdict asked radius cells) (meets asked radius cells) (is_sure asked radius cells)
 query-tells asked cells radius = tells-of (meets asked radius cells) (is_sure asked radius cells)
 
 -- and so does that on two objects
-pub pair-tells : (a b : List ℕ) (radius : ℕ) → Tells (pair_verdict a radius b) (pair_meets a radius b) (pair_is_sure a radius b)
+pub pair-tells : (a b : List ℕ) (radius : ℕ) → IsTestOf (pair_verdict a radius b) (pair_meets a radius b) (pair_is_sure a radius b)
 pair-tells a b radius = tells-of (pair_meets a radius b) (pair_is_sure a radius b)
 
 -- the verdict on two objects is the same both ways
@@ -30,14 +30,14 @@ pair_verdict-symmetric a b radius =
 further : (radius distance : ℕ) → (distance ≤ radius → ⊥) → radius < distance
 further radius distance h = omega arith
 
-settles-by : (distance radius : ℕ) (told : PairTest) (met sure : Bool) → Tells told met sure → (distance ≤ radius → met ≡ true) → (sure ≡ true → distance ≤ radius) → Settles told distance radius
+settles-by : (distance radius : ℕ) (told : PairTest) (met sure : Bool) → IsTestOf told met sure → (distance ≤ radius → met ≡ true) → (sure ≡ true → distance ≤ radius) → IsSoundTest told distance radius
 settles-by distance radius Apart met sure t f g = further radius distance (λ h. let clash : false ≡ true = sym t ∙ f h in cc)
 settles-by distance radius Open met sure t f g = tt
 settles-by distance radius Sure met sure (m, s) f g = g s
 
 -- the verdict on a query and an object tells their distance
 pub query_settles : (admitted : List ℕ → Type 0) (dist : List ℕ → List ℕ → ℕ) (pivots : List (List ℕ)) → BoundsHold admitted dist pivots → (q o : List ℕ) (radius : ℕ) → admitted q → admitted o
-    → Settles (query_verdict (vector_of dist pivots q) radius (cells_of dist pivots o)) (dist q o) radius
+    → IsSoundTest (query_verdict (vector_of dist pivots q) radius (cells_of dist pivots o)) (dist q o) radius
 query_settles admitted dist pivots bounds q o radius f g =
     let asked = vector_of dist pivots q in
     let cells = cells_of dist pivots o in
@@ -47,7 +47,7 @@ query_settles admitted dist pivots bounds q o radius f g =
 
 -- and the verdict on two objects tells theirs
 pub pair_settles : (admitted : List ℕ → Type 0) (dist : List ℕ → List ℕ → ℕ) (pivots : List (List ℕ)) → BoundsHold admitted dist pivots → (a b : List ℕ) (radius : ℕ) → admitted a → admitted b
-    → Settles (pair_verdict (cells_of dist pivots a) radius (cells_of dist pivots b)) (dist a b) radius
+    → IsSoundTest (pair_verdict (cells_of dist pivots a) radius (cells_of dist pivots b)) (dist a b) radius
 pair_settles admitted dist pivots bounds a b radius f g =
     let x = cells_of dist pivots a in
     let y = cells_of dist pivots b in

@@ -19,19 +19,19 @@ abbrev pub pair_verdict : List ℕ → ℕ → List ℕ → PairTest
 pair_verdict a radius b = verdict (pair_meets a radius b) (pair_is_sure a radius b)
 
 -- the two tests, by what is told
-abbrev pub Tells : PairTest → Bool → Bool → Type 0
-Tells Apart met sure = met ≡ false
-Tells Open met sure = (met ≡ true) × (sure ≡ false)
-Tells Sure met sure = (met ≡ true) × (sure ≡ true)
+abbrev pub IsTestOf : PairTest → Bool → Bool → Type 0
+IsTestOf Apart met sure = met ≡ false
+IsTestOf Open met sure = (met ≡ true) × (sure ≡ false)
+IsTestOf Sure met sure = (met ≡ true) × (sure ≡ true)
 
 -- the distance has to be measured
-abbrev pub is_open_test : PairTest → Bool
-is_open_test Apart = false
-is_open_test Open = true
-is_open_test Sure = false
+abbrev pub test_is_open : PairTest → Bool
+test_is_open Apart = false
+test_is_open Open = true
+test_is_open Sure = false
 
 -- objects that are apart are further apart than the radius, those that are sure are within it
-abbrev pub Settles : PairTest → ℕ → ℕ → Type 0
-Settles Apart distance radius = radius < distance
-Settles Open distance radius = Unit {0}
-Settles Sure distance radius = distance ≤ radius
+abbrev pub IsSoundTest : PairTest → ℕ → ℕ → Type 0
+IsSoundTest Apart distance radius = radius < distance
+IsSoundTest Open distance radius = Unit {0}
+IsSoundTest Sure distance radius = distance ≤ radius

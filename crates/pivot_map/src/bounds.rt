@@ -2,7 +2,7 @@
 ghost use Rattle.std.specs.Prelude.{ℕ, List, All};
 ghost use Rattle.spb_defs.specs.Pivots.{vector_of, cells_of};
 ghost use Rattle.pivot_map.specs.Bounds.{BoundsHold};
-ghost use Rattle.pivot_map.specs.Verdicts.{query_verdict, pair_verdict, Settles};
+ghost use Rattle.pivot_map.specs.Verdicts.{query_verdict, pair_verdict, IsSoundTest};
 
 use metric_laws::{Metric, Ruler};
 use spb_edge::Bytes;
@@ -26,9 +26,9 @@ pub fn bounds_of_metric<M: Metric>(metric: &M, pivots: &[Bytes])
 pub fn verdicts_hold<R: Ruler>(ruler: &R, pivots: &[Bytes])
     requires pivots { All (R.admitted (R.kind ruler.now)) pivots.now }
     ensures query { (q o : List ℕ) (radius : ℕ) → R.admitted (R.kind ruler.now) q → R.admitted (R.kind ruler.now) o
-        → Settles (query_verdict (vector_of (R.dist (R.kind ruler.now)) pivots.now q) radius (cells_of (R.dist (R.kind ruler.now)) pivots.now o))
+        → IsSoundTest (query_verdict (vector_of (R.dist (R.kind ruler.now)) pivots.now q) radius (cells_of (R.dist (R.kind ruler.now)) pivots.now o))
         (R.dist (R.kind ruler.now) q o) radius }
     ensures pair { (a b : List ℕ) (radius : ℕ) → R.admitted (R.kind ruler.now) a → R.admitted (R.kind ruler.now) b
-        → Settles (pair_verdict (cells_of (R.dist (R.kind ruler.now)) pivots.now a) radius (cells_of (R.dist (R.kind ruler.now)) pivots.now b))
+        → IsSoundTest (pair_verdict (cells_of (R.dist (R.kind ruler.now)) pivots.now a) radius (cells_of (R.dist (R.kind ruler.now)) pivots.now b))
         (R.dist (R.kind ruler.now) a b) radius }
 {}

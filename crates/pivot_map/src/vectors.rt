@@ -1,6 +1,6 @@
 //! The vector of an object, and what two vectors tell.
 ghost use Rattle.std.specs.Prelude.{◌≡◌, ◌+◌, ◌^◌, ◌<◌, ◌≤◌, nat_le, length, All};
-ghost use Rattle.metric_laws.specs.Log.{Grew, each_with};
+ghost use Rattle.metric_laws.specs.Log.{LogExtends, each_with};
 ghost use Rattle.spb_defs.specs.Pivots.{vector_of, meets, is_sure, lower_bound};
 
 use curve_laws::Vect;
@@ -16,7 +16,7 @@ pub fn map_object<R: Ruler>(ruler: &mut R, pivots: &[Bytes], object: &[u8]) -> V
     ensures vector { result ≡ vector_of (R.dist (R.kind ruler.old)) pivots.now object.now }
     ensures kind { R.kind ruler.new ≡ R.kind ruler.old }
     ensures count { R.count ruler.new ≡ R.count ruler.old + length pivots.now }
-    ensures log { Grew (R.log ruler.old) (R.log ruler.new) (each_with object.now pivots.now) }
+    ensures log { LogExtends (R.log ruler.old) (R.log ruler.new) (each_with object.now pivots.now) }
 {
     let mut at = [0; 8];
     let mut known = 0;

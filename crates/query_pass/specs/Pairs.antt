@@ -1,6 +1,6 @@
 -- Rows, pairs of rows, and what is found out of a pair.
 use Rattle.std.specs.Prelude.{◌≡◌, ℕ, ◌&&◌, Bool, nat_lt, nat_le, List, All, if◌then◌else◌}
-use Rattle.metric_laws.specs.Log.{Measured}
+use Rattle.metric_laws.specs.Log.{MeasuredPair}
 use Rattle.spb_defs.specs.Pivots.{cells_of}
 use Rattle.spb_defs.specs.Scans as scans
 use Rattle.pivot_map.specs.Rows.{entry_of}
@@ -20,19 +20,19 @@ pub record ArePairs (admitted : List ℕ → Type 0) (dist : List ℕ → List �
   pub right : All (λ (pair : Row × Row). IsRow admitted dist pivots pair.1) pairs
 
 -- the ids and objects of the two
-abbrev pub entries_of_pair : Row × Row → scans.Row × scans.Row
-entries_of_pair pair = (entry_of pair.0, entry_of pair.1)
+abbrev pub pair_entries : Row × Row → scans.Entry × scans.Entry
+pair_entries pair = (entry_of pair.0, entry_of pair.1)
 
-abbrev pub ids_of : Row × Row → ℕ × ℕ
-ids_of pair = (pair.0.id, pair.1.id)
+abbrev pub pair_ids : Row × Row → ℕ × ℕ
+pair_ids pair = (pair.0.id, pair.1.id)
 
-abbrev pub objects_of : Row × Row → Measured
-objects_of pair = (pair.0.object, pair.1.object)
+abbrev pub pair_objects : Row × Row → MeasuredPair
+pair_objects pair = (pair.0.object, pair.1.object)
 
 -- what is found out of the two
 abbrev pub verdict_of_pair : (List ℕ → List ℕ → ℕ) → ℕ → Row × Row → Verdict
 verdict_of_pair dist radius pair = verdict_of (pair_verdict pair.0.vect radius pair.1.vect) (nat_le (dist pair.0.object pair.1.object) radius)
 
 -- the two rows, within one list with the lesser id on the left
-abbrev pub pair_of : Bool → Row → Row → Row × Row
-pair_of same left right = if same && nat_lt right.id left.id then (right, left) else (left, right)
+abbrev pub ordered_pair : Bool → Row → Row → Row × Row
+ordered_pair same left right = if same && nat_lt right.id left.id then (right, left) else (left, right)

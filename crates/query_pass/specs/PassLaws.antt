@@ -4,13 +4,13 @@ use Rattle.std.specs.Prelude.{if◌then◌else◌, filter, map, count_by, All}
 use Rattle.std.proofs.lemmas.List.{map-append}
 use Rattle.std.proofs.lemmas.List.Elements.{All-head, All-tail, All-weaker, filter-append}
 use Rattle.std.proofs.lemmas.List.Sums.{sum_by-append, sum_by-cons, count_by-le-length, length-filter}
-use Rattle.metric_laws.specs.Log.{Measured, Grew}
-use Rattle.metric_laws.specs.LogLaws.{Grew-nothing, Grew-then, Grew-same}
+use Rattle.metric_laws.specs.Log.{MeasuredPair, LogExtends}
+use Rattle.metric_laws.specs.LogLaws.{LogExtends-nothing, LogExtends-then, LogExtends-same}
 use Rattle.query_pass.specs.declared.verdict.Verdict.{Verdict}
 use Rattle.query_pass.specs.declared.verdict.Verdict.TheVariants.{Apart}
 use Rattle.query_pass.specs.declared.found.Found.{Found}
 use Rattle.query_pass.specs.Verdicts.{is_within, was_measured, was_sure, one_if}
-use Rattle.query_pass.specs.Findings.{Finds, Measures}
+use Rattle.query_pass.specs.Findings.{PassesOver, MeasuresOpen}
 
 -- what a test keeps of two lists, one after the other
 kept-then : {A K : Type 0} (test : A → Bool) (name : A → K) (xs ys : List A) → map name (filter test (xs ++ ys)) ≡ map name (filter test xs) ++ map name (filter test ys)
@@ -21,11 +21,11 @@ count-then test xs ys = sum_by-append (λ x. if test x then 1 else 0) xs ys
 
 -- ---- what was found
 
-pub Finds-none : {A K : Type 0} (verdict : A → Verdict) (name : A → K) (found : Found K) → Finds verdict name [] found found
-Finds-none verdict name found = record { kept = sym (append-nil found.kept.items); evals = omega arith; sure = omega arith }
+pub PassesOver-none : {A K : Type 0} (verdict : A → Verdict) (name : A → K) (found : Found K) → PassesOver verdict name [] found found
+PassesOver-none verdict name found = record { kept = sym (append-nil found.kept.items); evals = omega arith; sure = omega arith }
 
-pub Finds-then : {A K : Type 0} (verdict : A → Verdict) (name : A → K) (xs ys : List A) (before amid after : Found K) → Finds verdict name xs before amid → Finds verdict name ys amid after → Finds verdict name (xs ++ ys) before after
-Finds-then verdict name xs ys before amid after first second = record {
+pub PassesOver-then : {A K : Type 0} (verdict : A → Verdict) (name : A → K) (xs ys : List A) (before amid after : Found K) → PassesOver verdict name xs before amid → PassesOver verdict name ys amid after → PassesOver verdict name (xs ++ ys) before after
+PassesOver-then verdict name xs ys before amid after first second = record {
   kept =
       second.kept ∙ ap (λ kept. kept ++ map name (filter (λ a. is_within (verdict a)) ys)) first.kept
       ∙ append_assoc before.kept.items (map name (filter (λ a. is_within (verdict a)) xs)) (map name (filter (λ a. is_within (verdict a)) ys))
@@ -44,56 +44,56 @@ one_counted test other x w same =
     let b = sum_by-cons (λ w. if other w then 1 else 0) w [] in
     let c = ap one_if same in omega (arith, a, b, c)
 
-found_one : {A K : Type 0} (verdict : A → Verdict) (name : A → K) (x : A) (before after : Found K) → Finds (λ (v : Verdict). v) (λ (v : Verdict). name x) (verdict x ∷ []) before after → Finds verdict name (x ∷ []) before after
+found_one : {A K : Type 0} (verdict : A → Verdict) (name : A → K) (x : A) (before after : Found K) → PassesOver (λ (v : Verdict). v) (λ (v : Verdict). name x) (verdict x ∷ []) before after → PassesOver verdict name (x ∷ []) before after
 found_one verdict name x before after one = record {
   kept = one.kept ∙ ap (λ more. before.kept.items ++ more) (one_kept name x (verdict x) (is_within (verdict x)));
   evals = one.evals ∙ ap (λ n. before.evals + n) (one_counted (λ a. was_measured (verdict a)) was_measured x (verdict x) refl);
   sure = one.sure ∙ ap (λ n. before.sure + n) (one_counted (λ a. was_sure (verdict a)) was_sure x (verdict x) refl);
 }
 
-pub Finds-one : {A K : Type 0} (verdict : A → Verdict) (name : A → K) (x : A) (v : Verdict) (n : K) (before after : Found K) → v ≡ verdict x → n ≡ name x → Finds (λ (v : Verdict). v) (λ (v : Verdict). n) (v ∷ []) before after → Finds verdict name (x ∷ []) before after
-Finds-one {K} verdict name x v n before after is called one =
+pub PassesOver-one : {A K : Type 0} (verdict : A → Verdict) (name : A → K) (x : A) (v : Verdict) (n : K) (before after : Found K) → v ≡ verdict x → n ≡ name x → PassesOver (λ (v : Verdict). v) (λ (v : Verdict). n) (v ∷ []) before after → PassesOver verdict name (x ∷ []) before after
+PassesOver-one {K} verdict name x v n before after is called one =
     found_one verdict name x before after
-    (subst (λ (n : K). Finds (λ (v : Verdict). v) (λ (v : Verdict). n) (verdict x ∷ []) before after) called
-    (subst (λ (v : Verdict). Finds (λ (v : Verdict). v) (λ (v : Verdict). n) (v ∷ []) before after) is one))
+    (subst (λ (n : K). PassesOver (λ (v : Verdict). v) (λ (v : Verdict). n) (verdict x ∷ []) before after) called
+    (subst (λ (v : Verdict). PassesOver (λ (v : Verdict). v) (λ (v : Verdict). n) (v ∷ []) before after) is one))
 
 -- ---- what was measured
 
-pub Measures-none : {A : Type 0} (verdict : A → Verdict) (objects : A → Measured) (count : ℕ) (log : Option (List Measured)) → Measures verdict objects [] count log count log
-Measures-none verdict objects count log = record { counted = omega arith; logged = Grew-nothing log }
+pub MeasuresOpen-none : {A : Type 0} (verdict : A → Verdict) (objects : A → MeasuredPair) (count : ℕ) (log : Option (List MeasuredPair)) → MeasuresOpen verdict objects [] count log count log
+MeasuresOpen-none verdict objects count log = record { counted = omega arith; logged = LogExtends-nothing log }
 
-pub Measures-then : {A : Type 0} (verdict : A → Verdict) (objects : A → Measured) (xs ys : List A) (count : ℕ) (log : Option (List Measured)) (count' : ℕ) (log' : Option (List Measured)) (count'' : ℕ) (log'' : Option (List Measured))
-    → Measures verdict objects xs count log count' log' → Measures verdict objects ys count' log' count'' log'' → Measures verdict objects (xs ++ ys) count log count'' log''
-Measures-then verdict objects xs ys count log count' log' count'' log'' first second = record {
+pub MeasuresOpen-then : {A : Type 0} (verdict : A → Verdict) (objects : A → MeasuredPair) (xs ys : List A) (count : ℕ) (log : Option (List MeasuredPair)) (count' : ℕ) (log' : Option (List MeasuredPair)) (count'' : ℕ) (log'' : Option (List MeasuredPair))
+    → MeasuresOpen verdict objects xs count log count' log' → MeasuresOpen verdict objects ys count' log' count'' log'' → MeasuresOpen verdict objects (xs ++ ys) count log count'' log''
+MeasuresOpen-then verdict objects xs ys count log count' log' count'' log'' first second = record {
   counted = let e = count-then (λ a. was_measured (verdict a)) xs ys in let f = first.counted in let h = second.counted in omega (arith, e, f, h);
   logged =
-      Grew-same log log'' _ _ (sym (kept-then (λ a. was_measured (verdict a)) objects xs ys))
-      (Grew-then log log' log'' _ _ first.logged second.logged);
+      LogExtends-same log log'' _ _ (sym (kept-then (λ a. was_measured (verdict a)) objects xs ys))
+      (LogExtends-then log log' log'' _ _ first.logged second.logged);
 }
 
-one_logged : {A : Type 0} (objects : A → Measured) (x : A) (b : Bool) → map objects (if b then x ∷ [] else []) ≡ (if b then objects x ∷ [] else [])
+one_logged : {A : Type 0} (objects : A → MeasuredPair) (x : A) (b : Bool) → map objects (if b then x ∷ [] else []) ≡ (if b then objects x ∷ [] else [])
 one_logged objects x true = refl
 one_logged objects x false = refl
 
-pub Measures-one : {A : Type 0} (verdict : A → Verdict) (objects : A → Measured) (x : A) (v : Verdict) (m : Measured) (count : ℕ) (log : Option (List Measured)) (count' : ℕ) (log' : Option (List Measured)) → v ≡ verdict x → m ≡ objects x
-    → count' ≡ count + one_if (was_measured v) → Grew log log' (if was_measured v then m ∷ [] else []) → Measures verdict objects (x ∷ []) count log count' log'
-Measures-one verdict objects x v m count log count' log' is are counted logged = record {
+pub MeasuresOpen-one : {A : Type 0} (verdict : A → Verdict) (objects : A → MeasuredPair) (x : A) (v : Verdict) (m : MeasuredPair) (count : ℕ) (log : Option (List MeasuredPair)) (count' : ℕ) (log' : Option (List MeasuredPair)) → v ≡ verdict x → m ≡ objects x
+    → count' ≡ count + one_if (was_measured v) → LogExtends log log' (if was_measured v then m ∷ [] else []) → MeasuresOpen verdict objects (x ∷ []) count log count' log'
+MeasuresOpen-one verdict objects x v m count log count' log' is are counted logged = record {
   counted =
       let a = sum_by-cons (λ a. if was_measured (verdict a) then 1 else 0) x [] in
       let b = ap (λ v. one_if (was_measured v)) is in omega (arith, a, b, counted);
   logged =
-      Grew-same log log' _ _
+      LogExtends-same log log' _ _
       (ap (λ m. if was_measured v then m ∷ [] else []) are ∙ ap (λ v. if was_measured v then objects x ∷ [] else []) is ∙ sym (one_logged objects x (was_measured (verdict x))))
       logged;
 }
 
-pub Measures-few : {A : Type 0} (verdict : A → Verdict) (objects : A → Measured) (xs : List A) (count : ℕ) (log : Option (List Measured)) (count' : ℕ) (log' : Option (List Measured)) → Measures verdict objects xs count log count' log' → count' ≤ count + length xs
-Measures-few verdict objects xs count log count' log' h = let a = h.counted in let b = count_by-le-length (λ a. was_measured (verdict a)) xs in omega (arith, a, b)
+pub MeasuresOpen-few : {A : Type 0} (verdict : A → Verdict) (objects : A → MeasuredPair) (xs : List A) (count : ℕ) (log : Option (List MeasuredPair)) (count' : ℕ) (log' : Option (List MeasuredPair)) → MeasuresOpen verdict objects xs count log count' log' → count' ≤ count + length xs
+MeasuresOpen-few verdict objects xs count log count' log' h = let a = h.counted in let b = count_by-le-length (λ a. was_measured (verdict a)) xs in omega (arith, a, b)
 
-pub evals-few : {A K : Type 0} (verdict : A → Verdict) (name : A → K) (xs : List A) (before after : Found K) → Finds verdict name xs before after → after.evals ≤ before.evals + length xs
+pub evals-few : {A K : Type 0} (verdict : A → Verdict) (name : A → K) (xs : List A) (before after : Found K) → PassesOver verdict name xs before after → after.evals ≤ before.evals + length xs
 evals-few verdict name xs before after h = let a = h.evals in let b = count_by-le-length (λ a. was_measured (verdict a)) xs in omega (arith, a, b)
 
-pub sure-few : {A K : Type 0} (verdict : A → Verdict) (name : A → K) (xs : List A) (before after : Found K) → Finds verdict name xs before after → after.sure ≤ before.sure + length xs
+pub sure-few : {A K : Type 0} (verdict : A → Verdict) (name : A → K) (xs : List A) (before after : Found K) → PassesOver verdict name xs before after → after.sure ≤ before.sure + length xs
 sure-few verdict name xs before after h = let a = h.sure in let b = count_by-le-length (λ a. was_sure (verdict a)) xs in omega (arith, a, b)
 
 -- ---- those that are apart
@@ -131,35 +131,35 @@ fails : {A : Type 0} (verdict : A → Verdict) (xs : List A) (test : Verdict →
 fails verdict xs test none apart = All-weaker (λ x. verdict x ≡ Apart) (λ x. test (verdict x) ≡ false) (λ x is. ap test is ∙ none) xs apart
 
 -- a pass over those that were kept is one over all, if the others are apart
-pub Finds-kept : {A K : Type 0} (verdict : A → Verdict) (name : A → K) (keep : A → Bool) (xs : List A) (before after : Found K) → All (λ x. keep x ≡ false → verdict x ≡ Apart) xs
-    → Finds verdict name (filter keep xs) before after → Finds verdict name xs before after
-Finds-kept verdict name keep xs before after apart finds = record {
+pub PassesOver-kept : {A K : Type 0} (verdict : A → Verdict) (name : A → K) (keep : A → Bool) (xs : List A) (before after : Found K) → All (λ x. keep x ≡ false → verdict x ≡ Apart) xs
+    → PassesOver verdict name (filter keep xs) before after → PassesOver verdict name xs before after
+PassesOver-kept verdict name keep xs before after apart finds = record {
   kept = finds.kept ∙ ap (λ kept. before.kept.items ++ map name kept) (filter-kept (λ x. is_within (verdict x)) keep xs (fails_if verdict keep xs is_within refl apart));
   evals = finds.evals ∙ ap (λ n. before.evals + n) (count-kept (λ x. was_measured (verdict x)) keep xs (fails_if verdict keep xs was_measured refl apart));
   sure = finds.sure ∙ ap (λ n. before.sure + n) (count-kept (λ x. was_sure (verdict x)) keep xs (fails_if verdict keep xs was_sure refl apart));
 }
 
-pub Measures-kept : {A : Type 0} (verdict : A → Verdict) (objects : A → Measured) (keep : A → Bool) (xs : List A) (count : ℕ) (log : Option (List Measured)) (count' : ℕ) (log' : Option (List Measured)) → All (λ x. keep x ≡ false → verdict x ≡ Apart) xs
-    → Measures verdict objects (filter keep xs) count log count' log' → Measures verdict objects xs count log count' log'
-Measures-kept verdict objects keep xs count log count' log' apart measures =
+pub MeasuresOpen-kept : {A : Type 0} (verdict : A → Verdict) (objects : A → MeasuredPair) (keep : A → Bool) (xs : List A) (count : ℕ) (log : Option (List MeasuredPair)) (count' : ℕ) (log' : Option (List MeasuredPair)) → All (λ x. keep x ≡ false → verdict x ≡ Apart) xs
+    → MeasuresOpen verdict objects (filter keep xs) count log count' log' → MeasuresOpen verdict objects xs count log count' log'
+MeasuresOpen-kept verdict objects keep xs count log count' log' apart measures =
     let out = fails_if verdict keep xs was_measured refl apart in record {
       counted = measures.counted ∙ ap (λ n. count + n) (count-kept (λ x. was_measured (verdict x)) keep xs out);
-      logged = Grew-same log log' _ _ (ap (map objects) (filter-kept (λ x. was_measured (verdict x)) keep xs out)) measures.logged;
+      logged = LogExtends-same log log' _ _ (ap (map objects) (filter-kept (λ x. was_measured (verdict x)) keep xs out)) measures.logged;
     }
 
 -- nothing is found of those that are apart
-pub Finds-apart : {A K : Type 0} (verdict : A → Verdict) (name : A → K) (xs : List A) (found : Found K) → All (λ x. verdict x ≡ Apart) xs → Finds verdict name xs found found
-Finds-apart verdict name xs found apart = record {
+pub PassesOver-apart : {A K : Type 0} (verdict : A → Verdict) (name : A → K) (xs : List A) (found : Found K) → All (λ x. verdict x ≡ Apart) xs → PassesOver verdict name xs found found
+PassesOver-apart verdict name xs found apart = record {
   kept = sym (append-nil found.kept.items) ∙ ap (λ kept. found.kept.items ++ map name kept) (sym (filter-none (λ x. is_within (verdict x)) xs (fails verdict xs is_within refl apart)));
   evals = let none = count-none (λ x. was_measured (verdict x)) xs (fails verdict xs was_measured refl apart) in omega (arith, none);
   sure = let none = count-none (λ x. was_sure (verdict x)) xs (fails verdict xs was_sure refl apart) in omega (arith, none);
 }
 
-pub Measures-apart : {A : Type 0} (verdict : A → Verdict) (objects : A → Measured) (xs : List A) (count : ℕ) (log : Option (List Measured)) → All (λ x. verdict x ≡ Apart) xs → Measures verdict objects xs count log count log
-Measures-apart verdict objects xs count log apart =
+pub MeasuresOpen-apart : {A : Type 0} (verdict : A → Verdict) (objects : A → MeasuredPair) (xs : List A) (count : ℕ) (log : Option (List MeasuredPair)) → All (λ x. verdict x ≡ Apart) xs → MeasuresOpen verdict objects xs count log count log
+MeasuresOpen-apart verdict objects xs count log apart =
     let out = fails verdict xs was_measured refl apart in record {
       counted = let none = count-none (λ x. was_measured (verdict x)) xs out in omega (arith, none);
-      logged = Grew-same log log _ _ (sym (ap (map objects) (filter-none (λ x. was_measured (verdict x)) xs out))) (Grew-nothing log);
+      logged = LogExtends-same log log _ _ (sym (ap (map objects) (filter-none (λ x. was_measured (verdict x)) xs out))) (LogExtends-nothing log);
     }
 
 -- ---- the same test of the items of two lists

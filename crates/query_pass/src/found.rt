@@ -17,7 +17,7 @@ pub struct Found<T> {
 
 impl<T: Drop> Found<T> {
     ghost use Rattle.std.specs.Prelude.{◌≡◌, ◌-◌, ◌^◌, ◌<◌, ◌∷◌, [], OnOk, OnErr};
-    ghost use Rattle.query_pass.specs.Findings.{Finds, IsSameFinding};
+    ghost use Rattle.query_pass.specs.Findings.{PassesOver, IsUnchanged};
 
     /// Nothing yet. It takes no memory.
     pub fn new(alloc: Global) -> Found<T>
@@ -37,8 +37,8 @@ impl<T: Drop> Found<T> {
     pub fn note(&mut self, name: T, verdict: Verdict) -> Result<(), Memory>
         requires evals { self.old.evals < 2 ^ 64 - 1 }
         requires sure { self.old.sure < 2 ^ 64 - 1 }
-        ensures noted { OnOk result (Finds (λ v. v) (λ v. name) (verdict ∷ []) self.old self.new) }
-        ensures refused { OnErr result (IsSameFinding self.old self.new) }
+        ensures noted { OnOk result (PassesOver (λ v. v) (λ v. name) (verdict ∷ []) self.old self.new) }
+        ensures refused { OnErr result (IsUnchanged self.old self.new) }
     {
         if verdict.is_within() {
             self.kept.push(name)?;

@@ -1,7 +1,7 @@
 //! What is found out of two objects.
 ghost use Rattle.std.specs.Prelude.{◌≡◌, ◌+◌, ◌-◌, ◌^◌, ◌<◌, ◌∷◌, [], IsTrue, if◌then◌else◌, nat_le};
-ghost use Rattle.metric_laws.specs.Log.{Grew};
-ghost use Rattle.pivot_map.specs.Verdicts.{is_open_test};
+ghost use Rattle.metric_laws.specs.Log.{LogExtends};
+ghost use Rattle.pivot_map.specs.Verdicts.{test_is_open};
 ghost use Rattle.query_pass.specs.Verdicts.{verdict_of, was_measured, one_if};
 
 use metric_laws::Ruler;
@@ -56,12 +56,12 @@ pub fn judge_by<R: Ruler>(
     other: &[u8],
     r: u32,
 ) -> Verdict
-    requires first { IsTrue (is_open_test test) → R.admitted (R.kind ruler.old) object.now }
-    requires second { IsTrue (is_open_test test) → R.admitted (R.kind ruler.old) other.now }
+    requires first { IsTrue (test_is_open test) → R.admitted (R.kind ruler.old) object.now }
+    requires second { IsTrue (test_is_open test) → R.admitted (R.kind ruler.old) other.now }
     requires room { R.count ruler.old < 2 ^ 64 - 1 }
     ensures verdict { result ≡ verdict_of test (nat_le (R.dist (R.kind ruler.old) object.now other.now) r) }
     ensures count { R.count ruler.new ≡ R.count ruler.old + one_if (was_measured result) }
-    ensures log { Grew (R.log ruler.old) (R.log ruler.new) (if was_measured result then (object.now, other.now) ∷ [] else []) }
+    ensures log { LogExtends (R.log ruler.old) (R.log ruler.new) (if was_measured result then (object.now, other.now) ∷ [] else []) }
     ensures kind { R.kind ruler.new ≡ R.kind ruler.old }
 {
     match test {

@@ -3,28 +3,28 @@ use Rattle.std.proofs.Common.{◌≡◌, ℕ, ◌+◌, ◌*◌, ◌<◌, ◌≤�
 use Rattle.std.specs.Prelude.{◌&&◌, nat_lt, drop, if◌then◌else◌}
 use Rattle.std.proofs.lemmas.List.{length-map, map-append, at_drop_all, drop_more, take_more, length-take-le}
 use Rattle.pivot_map.specs.declared.row.Row.{Row}
-use Rattle.query_pass.specs.Pairs.{pair_of}
+use Rattle.query_pass.specs.Pairs.{ordered_pair}
 use Rattle.range_query.specs.Passes.{pairs_of, partners_of}
 
 -- ---- the pairs of a row
 
 pub length-pairs_of : (same : Bool) (others : List Row) (left : Row) → length (pairs_of same others left) ≡ length others
-length-pairs_of same others left = length-map others (pair_of same left)
+length-pairs_of same others left = length-map others (ordered_pair same left)
 
 pub length-pairs_of-front : (same : Bool) (others : List Row) (left : Row) (i : ℕ) → i ≤ length others → length (pairs_of same (take i others) left) ≡ i
 length-pairs_of-front same others left i below = length-pairs_of same (take i others) left ∙ length-take-le i others below
 
-pub pairs_of-more : (same : Bool) (others : List Row) (left : Row) (i : ℕ) (x : Row) → i < length others → x ≡ get_or others i x → pairs_of same (take (i + 1) others) left ≡ pairs_of same (take i others) left ++ pair_of same left x ∷ []
+pub pairs_of-more : (same : Bool) (others : List Row) (left : Row) (i : ℕ) (x : Row) → i < length others → x ≡ get_or others i x → pairs_of same (take (i + 1) others) left ≡ pairs_of same (take i others) left ++ ordered_pair same left x ∷ []
 pairs_of-more same others left i x below is =
     ap (λ xs. pairs_of same xs left) (take_more others i x below ∙ ap (λ y. take i others ++ y ∷ []) (sym is))
-    ∙ map-append (pair_of same left) (take i others) (x ∷ [])
+    ∙ map-append (ordered_pair same left) (take i others) (x ∷ [])
 
 both_if : (P : Row × Row → Type 0) (b : Bool) (left right : Row) → P (left, right) → P (right, left) → P (if b then (right, left) else (left, right))
 both_if P true left right there back = back
 both_if P false left right there back = there
 
 -- what holds of the two rows either way
-pub either_way : (P : Row → Row → Type 0) (same : Bool) (left right first second : Row) → ◌≡◌ {A = Row × Row} (first, second) (pair_of same left right) → P left right → P right left → P first second
+pub either_way : (P : Row → Row → Type 0) (same : Bool) (left right first second : Row) → ◌≡◌ {A = Row × Row} (first, second) (ordered_pair same left right) → P left right → P right left → P first second
 either_way P same left right first second is there back = subst (λ (p : Row × Row). P p.0 p.1) (sym is) (both_if (λ (p : Row × Row). P p.0 p.1) (same && nat_lt right.id left.id) left right there back)
 
 -- ---- the pairs of all rows

@@ -4,7 +4,7 @@ use Rattle.pivot_map.specs.declared.row.Row.{Row}
 use Rattle.pivot_map.specs.Verdicts.{query_verdict}
 use Rattle.query_pass.specs.declared.verdict.Verdict.{Verdict}
 use Rattle.query_pass.specs.Verdicts.{verdict_of}
-use Rattle.query_pass.specs.Pairs.{pair_of}
+use Rattle.query_pass.specs.Pairs.{ordered_pair}
 
 -- rows of objects that are measured, with vectors of one length
 pub record AreAlike (admitted : List ℕ → Type 0) (coordinates : ℕ) (rows : List Row) : Type 0 where
@@ -17,7 +17,7 @@ verdict_of_row dist asked query radius row = verdict_of (query_verdict asked rad
 
 -- the pairs of a row with each of the others
 abbrev pub pairs_of : Bool → List Row → Row → List (Row × Row)
-pairs_of same others left = map (pair_of same left) others
+pairs_of same others left = map (ordered_pair same left) others
 
 -- the rows that a row is paired with: all on the right, or within one list those from a place on
 abbrev pub partners_of : Bool → List Row → ℕ → List Row

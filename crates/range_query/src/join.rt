@@ -1,9 +1,9 @@
 //! Joins of rows.
 ghost use Rattle.std.specs.Prelude.{length, ◌≤◌, ◌≡◌, ℕ, ◌+◌, ◌^◌, ◌<◌, true, IfOk, OnOk};
-ghost use Rattle.metric_laws.specs.Log.{GrewInAnyOrder};
-ghost use Rattle.spb_defs.specs.Scans.{considered, join_answer, join_visits};
-ghost use Rattle.query_pass.specs.Findings.{Finds, Measures};
-ghost use Rattle.query_pass.specs.Pairs.{verdict_of_pair, ids_of, objects_of, pair_of};
+ghost use Rattle.metric_laws.specs.Log.{LogExtendsInAnyOrder};
+ghost use Rattle.spb_defs.specs.Scans.{considered_pairs, join_answer, join_visits};
+ghost use Rattle.query_pass.specs.Findings.{PassesOver, MeasuresOpen};
+ghost use Rattle.query_pass.specs.Pairs.{verdict_of_pair, pair_ids, pair_objects, ordered_pair};
 ghost use Rattle.range_query.specs.Passes.{AreAlike, pairs_of, partners_of};
 ghost use Rattle.pivot_map.specs.Rows.{ArePivots, AreRows, entries_of};
 
@@ -36,11 +36,11 @@ pub fn join_rows<R: Ruler>(
     requires right { AreRows (R.admitted (R.kind ruler.old)) (R.dist (R.kind ruler.old)) pivots.now right.now }
     requires same { same ≡ true → left.now ≡ right.now }
     requires room { R.count ruler.old < 2 ^ 63 }
-    ensures answer { IfOk result (λ answer. answer ≡ join_answer (R.dist (R.kind ruler.old)) pivots.now (considered same (entries_of left.now) (entries_of right.now)) r) }
+    ensures answer { IfOk result (λ answer. answer ≡ join_answer (R.dist (R.kind ruler.old)) pivots.now (considered_pairs same (entries_of left.now) (entries_of right.now)) r) }
     ensures count { IfOk result (λ answer. R.count ruler.new ≡ R.count ruler.old + answer.evals) }
     ensures rises { R.count ruler.old ≤ R.count ruler.new }
-    ensures log { OnOk result (GrewInAnyOrder (R.log ruler.old) (R.log ruler.new)
-        (join_visits (R.dist (R.kind ruler.old)) pivots.now (considered same (entries_of left.now) (entries_of right.now)) r)) }
+    ensures log { OnOk result (LogExtendsInAnyOrder (R.log ruler.old) (R.log ruler.new)
+        (join_visits (R.dist (R.kind ruler.old)) pivots.now (considered_pairs same (entries_of left.now) (entries_of right.now)) r)) }
     ensures kind { R.kind ruler.new ≡ R.kind ruler.old }
 {
     let mut found = Found::new(alloc);
@@ -79,8 +79,8 @@ fn pair_up<R: Ruler>(
     requires room { R.count ruler.old + length others.now < 2 ^ 64 }
     requires evals { found.old.evals + length others.now < 2 ^ 64 }
     requires sure { found.old.sure + length others.now < 2 ^ 64 }
-    ensures found { OnOk result (Finds (verdict_of_pair (R.dist (R.kind ruler.old)) r) ids_of (pairs_of same others.now row.now) found.old found.new) }
-    ensures measured { OnOk result (Measures (verdict_of_pair (R.dist (R.kind ruler.old)) r) objects_of (pairs_of same others.now row.now)
+    ensures found { OnOk result (PassesOver (verdict_of_pair (R.dist (R.kind ruler.old)) r) pair_ids (pairs_of same others.now row.now) found.old found.new) }
+    ensures measured { OnOk result (MeasuresOpen (verdict_of_pair (R.dist (R.kind ruler.old)) r) pair_objects (pairs_of same others.now row.now)
         (R.count ruler.old) (R.log ruler.old) (R.count ruler.new) (R.log ruler.new)) }
     ensures rises { R.count ruler.old ≤ R.count ruler.new }
     ensures kind { R.kind ruler.new ≡ R.kind ruler.old }
@@ -102,7 +102,7 @@ fn pair_up<R: Ruler>(
 
 /// The two rows, where `same` is true with the lesser id on the left.
 fn in_order<'a>(row: &'a Row, other: &'a Row, same: bool) -> (&'a Row, &'a Row)
-    ensures { (result.0.now, result.1.now) ≡ pair_of same row.now other.now }
+    ensures { (result.0.now, result.1.now) ≡ ordered_pair same row.now other.now }
 {
     if same && other.id < row.id {
         return (other, row);

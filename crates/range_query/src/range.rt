@@ -1,6 +1,6 @@
 //! Ranges over rows.
 ghost use Rattle.std.specs.Prelude.{◌≡◌, ℕ, ◌+◌, ◌^◌, ◌<◌, ◌≤◌, IfOk, OnOk};
-ghost use Rattle.metric_laws.specs.Log.{Grew, each_with};
+ghost use Rattle.metric_laws.specs.Log.{LogExtends, each_with};
 ghost use Rattle.spb_defs.specs.Scans.{range_answer, range_visits};
 ghost use Rattle.pivot_map.specs.Rows.{ArePivots, AreRows, entries_of};
 
@@ -32,7 +32,7 @@ pub fn range_rows<R: Ruler>(
     ensures answer { IfOk result (λ answer. answer ≡ range_answer (R.dist (R.kind ruler.old)) pivots.now (entries_of rows.now) q.now r) }
     ensures count { IfOk result (λ answer. R.count ruler.new ≡ R.count ruler.old + answer.evals) }
     ensures rises { R.count ruler.old ≤ R.count ruler.new }
-    ensures log { OnOk result (Grew (R.log ruler.old) (R.log ruler.new)
+    ensures log { OnOk result (LogExtends (R.log ruler.old) (R.log ruler.new)
         (each_with q.now (range_visits (R.dist (R.kind ruler.old)) pivots.now (entries_of rows.now) q.now r))) }
     ensures kind { R.kind ruler.new ≡ R.kind ruler.old }
 {

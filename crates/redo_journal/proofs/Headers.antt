@@ -8,7 +8,7 @@ use Rattle.std.proofs.lemmas.Slice.{take-put_mid, drop-put_mid}
 use Rattle.byteorder.specs.Endian.{big_bytes}
 use Rattle.byteorder.specs.Numbers.{length-bytes_high_first, big_from-take}
 use Rattle.redo_journal.specs.Pages.{IsHome}
-use Rattle.redo_journal.specs.Header.{number_of, bytes_of, count_of, numbers_in, named, header_page, AreHomes, FailsAt}
+use Rattle.redo_journal.specs.Header.{leading_number, number_bytes, image_count, numbers_in, page_numbers, header_page, AreHomes, FailsAt}
 
 -- a number and then numbers, written into zeros
 pub written : (size n : ℕ) (first numbers : List ℕ) → length first ≡ 4 → length numbers ≡ n → 8 + n ≤ size
@@ -31,32 +31,32 @@ written size n first numbers four many fits =
     ∙ append_assoc (first ++ replicate 4 0) numbers (replicate (size - 8 - n) 0)
     ∙ append_assoc first (replicate 4 0) (numbers ++ replicate (size - 8 - n) 0)
 
-pub length-bytes_of : (n : ℕ) → length (bytes_of n) ≡ 4
-unfolding bytes_of
-length-bytes_of n = length-bytes_high_first 4 n
+pub length-number_bytes : (n : ℕ) → length (number_bytes n) ≡ 4
+unfolding number_bytes
+length-number_bytes n = length-bytes_high_first 4 n
 
-numbers_long : (numbers : List ℕ) → length (flat_map bytes_of numbers) ≡ 4 * length numbers
+numbers_long : (numbers : List ℕ) → length (flat_map number_bytes numbers) ≡ 4 * length numbers
 numbers_long [] = refl
-numbers_long (n ∷ ns) = length-append (bytes_of n) (flat_map bytes_of ns) ∙ omega (arith, numbers_long ns, length-bytes_of n)
+numbers_long (n ∷ ns) = length-append (number_bytes n) (flat_map number_bytes ns) ∙ omega (arith, numbers_long ns, length-number_bytes n)
 
-pub header_written : (numbers first bytes : List ℕ) → length numbers ≤ 80 → first ≡ bytes_of (length numbers) ++ drop 4 (replicate 512 0)
-    → bytes ≡ flat_map bytes_of numbers → put_mid 8 (8 + 4 * length numbers - 8) first bytes ≡ header_page numbers
+pub header_written : (numbers first bytes : List ℕ) → length numbers ≤ 80 → first ≡ number_bytes (length numbers) ++ drop 4 (replicate 512 0)
+    → bytes ≡ flat_map number_bytes numbers → put_mid 8 (8 + 4 * length numbers - 8) first bytes ≡ header_page numbers
 unfolding header_page
 header_written numbers first bytes few is are =
     let long : length bytes ≡ 4 * length numbers = ap length are ∙ numbers_long numbers in
     let count : 8 + 4 * length numbers - 8 ≡ 4 * length numbers = omega arith in
     ap (λ xs. put_mid 8 (8 + 4 * length numbers - 8) xs bytes) is
-    ∙ ap (λ m. put_mid 8 m (bytes_of (length numbers) ++ drop 4 (replicate 512 0)) bytes) count
-    ∙ written 512 (4 * length numbers) (bytes_of (length numbers)) bytes (length-bytes_of (length numbers)) long (omega (arith, few))
-    ∙ ap (λ xs. bytes_of (length numbers) ++ (replicate 4 0 ++ (xs ++ replicate (504 - 4 * length numbers) 0))) are
+    ∙ ap (λ m. put_mid 8 m (number_bytes (length numbers) ++ drop 4 (replicate 512 0)) bytes) count
+    ∙ written 512 (4 * length numbers) (number_bytes (length numbers)) bytes (length-number_bytes (length numbers)) long (omega (arith, few))
+    ∙ ap (λ xs. number_bytes (length numbers) ++ (replicate 4 0 ++ (xs ++ replicate (504 - 4 * length numbers) 0))) are
 
 -- the bytes of numbers are those of the library that writes them
-pub are_bytes : (first rest : List ℕ) (n : ℕ) → first ≡ big_bytes 4 n ++ rest → first ≡ bytes_of n ++ rest
-unfolding bytes_of
+pub are_bytes : (first rest : List ℕ) (n : ℕ) → first ≡ big_bytes 4 n ++ rest → first ≡ number_bytes n ++ rest
+unfolding number_bytes
 are_bytes first rest n is = is
 
-pub are_all_bytes : (bytes numbers : List ℕ) → bytes ≡ flat_map (big_bytes 4) numbers → bytes ≡ flat_map bytes_of numbers
-unfolding bytes_of
+pub are_all_bytes : (bytes numbers : List ℕ) → bytes ≡ flat_map (big_bytes 4) numbers → bytes ≡ flat_map number_bytes numbers
+unfolding number_bytes
 are_all_bytes bytes numbers are = are
 
 -- the last of the numbers
@@ -79,26 +79,26 @@ fails_behind total last n [] rest homes bad = (refl, bad)
 fails_behind total last n (m ∷ ns) rest homes bad = (homes.0, homes.1, fails_behind total m n ns rest homes.2 bad)
 
 -- a number in a part of the header
-pub number_at : (n from size : ℕ) (header : List ℕ) → 4 ≤ size → n ≡ number_of (mid_of from size header) → n ≡ number_of (drop from header)
-unfolding number_of
+pub number_at : (n from size : ℕ) (header : List ℕ) → 4 ≤ size → n ≡ leading_number (mid_of from size header) → n ≡ leading_number (drop from header)
+unfolding leading_number
 number_at n from size header fits is = is ∙ big_from-take 0 4 size (drop from header) fits
 
 -- nothing was read yet
-pub reads_none : (total count : ℕ) (items header : List ℕ) → items ≡ [] → count ≡ count_of header
-    → (length items ≡ 0) × (items ++ numbers_in (count - 0) (drop 8 header) ≡ named header) × AreHomes total 0 items × (0 ≡ last_of 0 items)
-unfolding named
+pub reads_none : (total count : ℕ) (items header : List ℕ) → items ≡ [] → count ≡ image_count header
+    → (length items ≡ 0) × (items ++ numbers_in (count - 0) (drop 8 header) ≡ page_numbers header) × AreHomes total 0 items × (0 ≡ last_of 0 items)
+unfolding page_numbers
 reads_none total count items header none is =
-    let all : count - 0 ≡ count_of header = omega (arith, is) in
-    subst (λ (xs : List ℕ). (length xs ≡ 0) × (xs ++ numbers_in (count - 0) (drop 8 header) ≡ named header) × AreHomes total 0 xs × (0 ≡ last_of 0 xs))
+    let all : count - 0 ≡ image_count header = omega (arith, is) in
+    subst (λ (xs : List ℕ). (length xs ≡ 0) × (xs ++ numbers_in (count - 0) (drop 8 header) ≡ page_numbers header) × AreHomes total 0 xs × (0 ≡ last_of 0 xs))
     (sym none) (refl, ap (λ n. numbers_in n (drop 8 header)) all, tt, refl)
 
 -- one number was read, and there are more
-pub reads_on : (count place : ℕ) (items header : List ℕ) → place < count → items ++ numbers_in (count - place) (drop (8 + 4 * place) header) ≡ named header
-    → items ++ number_of (drop (8 + 4 * place) header) ∷ numbers_in (count - (place + 1)) (drop (8 + 4 * (place + 1)) header) ≡ named header
+pub reads_on : (count place : ℕ) (items header : List ℕ) → place < count → items ++ numbers_in (count - place) (drop (8 + 4 * place) header) ≡ page_numbers header
+    → items ++ leading_number (drop (8 + 4 * place) header) ∷ numbers_in (count - (place + 1)) (drop (8 + 4 * (place + 1)) header) ≡ page_numbers header
 reads_on count place items header more is =
     let next : count - place ≡ suc (count - (place + 1)) = omega (arith, more) in
     let behind : 8 + 4 * place + 4 ≡ 8 + 4 * (place + 1) = omega arith in
-    ap (λ xs. items ++ number_of (drop (8 + 4 * place) header) ∷ numbers_in (count - (place + 1)) xs) (ap (λ n. drop n header) (sym behind) ∙ sym (drop-drop 4 (8 + 4 * place) header))
+    ap (λ xs. items ++ leading_number (drop (8 + 4 * place) header) ∷ numbers_in (count - (place + 1)) xs) (ap (λ n. drop n header) (sym behind) ∙ sym (drop-drop 4 (8 + 4 * place) header))
     ∙ ap (λ n. items ++ numbers_in n (drop (8 + 4 * place) header)) (sym next)
     ∙ is
 
@@ -106,15 +106,15 @@ reads_on count place items header more is =
 -- header
 abbrev pub HasRead : ℕ → List ℕ → ℕ → List ℕ → ℕ → ℕ → Type 0
 HasRead total header count items last place =
-    (length items ≡ place) × (items ++ numbers_in (count - place) (drop (8 + 4 * place) header) ≡ named header) × AreHomes total 0 items × (last ≡ last_of 0 items)
+    (length items ≡ place) × (items ++ numbers_in (count - place) (drop (8 + 4 * place) header) ≡ page_numbers header) × AreHomes total 0 items × (last ≡ last_of 0 items)
 
 module _ (total count place last n : ℕ) (items header : List ℕ) (so_far : HasRead total header count items last place)
-    (more : place < count) (is : n ≡ number_of (drop (8 + 4 * place) header)) where
-  whole : items ++ n ∷ numbers_in (count - (place + 1)) (drop (8 + 4 * (place + 1)) header) ≡ named header
+    (more : place < count) (is : n ≡ leading_number (drop (8 + 4 * place) header)) where
+  whole : items ++ n ∷ numbers_in (count - (place + 1)) (drop (8 + 4 * (place + 1)) header) ≡ page_numbers header
   whole = ap (λ m. items ++ m ∷ numbers_in (count - (place + 1)) (drop (8 + 4 * (place + 1)) header)) is ∙ reads_on count place items header more so_far.1
 
   -- the next number isn't in its range
-  pub reads_bad : (IsHome total n × (last < n) → ⊥) → FailsAt total 0 (named header) place n
+  pub reads_bad : (IsHome total n × (last < n) → ⊥) → FailsAt total 0 (page_numbers header) place n
   reads_bad bad =
       let rest = numbers_in (count - (place + 1)) (drop (8 + 4 * (place + 1)) header) in
       let here : FailsAt total 0 (items ++ n ∷ rest) (length items) n =
@@ -134,13 +134,13 @@ pub length-header_page : (numbers : List ℕ) → length numbers ≤ 80 → leng
 unfolding header_page
 length-header_page numbers few =
     let zeros = replicate (504 - 4 * length numbers) 0 in
-    length-append (bytes_of (length numbers)) (replicate 4 0 ++ (flat_map bytes_of numbers ++ zeros))
+    length-append (number_bytes (length numbers)) (replicate 4 0 ++ (flat_map number_bytes numbers ++ zeros))
     ∙ omega (
       arith,
       few,
-      length-bytes_of (length numbers),
-      length-append (replicate {A = ℕ} 4 0) (flat_map bytes_of numbers ++ zeros),
-      length-append (flat_map bytes_of numbers) zeros,
+      length-number_bytes (length numbers),
+      length-append (replicate {A = ℕ} 4 0) (flat_map number_bytes numbers ++ zeros),
+      length-append (flat_map number_bytes numbers) zeros,
       numbers_long numbers,
       length-replicate {A = ℕ} (504 - 4 * length numbers) 0,
     )

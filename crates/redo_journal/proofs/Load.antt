@@ -1,14 +1,14 @@
 -- The images of the journal, taken from the disk behind one another.
 use Rattle.std.proofs.Common.{◌≡◌, ℕ, suc, ◌+◌, ◌*◌, List, [], ◌∷◌, ◌++◌, length, take, drop, refl, ◌∙◌, ap, arith, append_assoc}
 use Rattle.std.proofs.lemmas.List.{drop-take, drop-drop, take_at, drop_at}
-use Rattle.redo_journal.specs.Header.{named}
+use Rattle.redo_journal.specs.Header.{page_numbers}
 use Rattle.redo_journal.specs.Pages.{page}
-use Rattle.redo_journal.specs.Redo.{images_from, journal_of}
-use Rattle.redo_journal.specs.Change.{paired}
+use Rattle.redo_journal.specs.Redo.{entries_from, journal_entries}
+use Rattle.redo_journal.specs.Change.{page_entries}
 use Rattle.redo_journal.proofs.Pages.{page_front}
 
 -- so many pages from a place on are the images there
-pub images_read : (image : List ℕ) (i : ℕ) (ns : List ℕ) → paired 512 ns (take (512 * length ns) (drop (512 * i) image)) ≡ images_from image i ns
+pub images_read : (image : List ℕ) (i : ℕ) (ns : List ℕ) → page_entries 512 ns (take (512 * length ns) (drop (512 * i) image)) ≡ entries_from image i ns
 images_read image i [] = refl
 images_read image i (n ∷ ns) =
     let more : 512 * length (n ∷ ns) ≡ 512 + 512 * length ns = omega arith in
@@ -16,14 +16,14 @@ images_read image i (n ∷ ns) =
     let behind : drop 512 (take (512 * length (n ∷ ns)) (drop (512 * i) image)) ≡ take (512 * length ns) (drop (512 * suc i) image) =
     ap (λ k. drop 512 (take k (drop (512 * i) image))) more ∙ drop-take 512 (512 * length ns) (drop (512 * i) image)
     ∙ ap (take (512 * length ns)) (drop-drop 512 (512 * i) image ∙ ap (λ k. drop k image) on) in
-    ap (λ p. (n, p) ∷ paired 512 ns (drop 512 (take (512 * length (n ∷ ns)) (drop (512 * i) image)))) (page_front image i (512 * length (n ∷ ns)) (omega (arith, more)))
-    ∙ ap (λ xs. (n, page image i) ∷ paired 512 ns xs) behind
+    ap (λ p. (n, p) ∷ page_entries 512 ns (drop 512 (take (512 * length (n ∷ ns)) (drop (512 * i) image)))) (page_front image i (512 * length (n ∷ ns)) (omega (arith, more)))
+    ∙ ap (λ xs. (n, page image i) ∷ page_entries 512 ns xs) behind
     ∙ ap (λ es. (n, page image i) ∷ es) (images_read image (suc i) ns)
 
 -- the journal by the numbers of its header
-pub journal_by : (image header numbers : List ℕ) → header ≡ page image 4 → numbers ≡ named header → images_from image 5 numbers ≡ journal_of image
-unfolding journal_of
-journal_by image header numbers is are = ap (images_from image 5) (are ∙ ap named is)
+pub journal_by : (image header numbers : List ℕ) → header ≡ page image 4 → numbers ≡ page_numbers header → entries_from image 5 numbers ≡ journal_entries image
+unfolding journal_entries
+journal_by image header numbers is are = ap (entries_from image 5) (are ∙ ap page_numbers is)
 
 -- what was read behind the header, of a buffer that was lent and taken back
 pub behind_header : (first read rest more : List ℕ) (count whole : ℕ) → length first ≡ 512 → length read ≡ count → whole ≡ 512 + count

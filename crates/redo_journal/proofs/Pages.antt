@@ -2,9 +2,9 @@
 use Rattle.std.proofs.Common.{◌≡◌, ◌⊎◌, inl, inr, ℕ, suc, ◌+◌, ◌*◌, ◌<◌, ◌≤◌, List, [], ◌∷◌, ◌++◌, length, take, drop, slice_index, get_or, sym, ◌∙◌, ap, arith, append_assoc}
 use Rattle.std.proofs.Math.Seq.{take-take}
 use Rattle.std.proofs.lemmas.List.{take_at, drop_at, drop-drop, get_or-take, get_or-drop, ext_get_or, length-take-le, length-drop}
-use Rattle.spb_edge.specs.Crash.{Torn}
-use Rattle.spb_edge.specs.Disk.{laid}
-use Rattle.spb_edge.specs.Tears.{laid-in}
+use Rattle.spb_edge.specs.Crash.{IsTornWrite}
+use Rattle.spb_edge.specs.Disk.{overwritten_at}
+use Rattle.spb_edge.specs.Tears.{overwritten_at-in}
 use Rattle.redo_journal.specs.Pages.{page, gate, magic}
 
 -- parts of two lists that are alike item by item
@@ -17,7 +17,7 @@ part_same old new from count within longer same =
     let below : k < count = omega (arith, lt, also) in
     get_or-take count (drop from new) k 0 below ∙ get_or-drop from new k 0 ∙ same k below ∙ sym (get_or-drop from old k 0) ∙ sym (get_or-take count (drop from old) k 0 below))
 
-module _ (at count : ℕ) (old new : List ℕ) (torn : Torn at count old new) where
+module _ (at count : ℕ) (old new : List ℕ) (torn : IsTornWrite at count old new) where
   -- a write within the size keeps it
   pub torn_size : at + count ≤ length old → length new ≡ length old
   torn_size within = omega (arith, within, torn.no_shorter, torn.no_longer)
@@ -38,7 +38,7 @@ module _ (at count : ℕ) (old new : List ℕ) (torn : Torn at count old new) wh
   torn_magic long behind = part_same old new 0 8 long torn.no_shorter (λ k lt. torn.alike (0 + k) (omega (arith, lt, long)) (inl (omega (arith, lt, behind))))
 
 -- a page that was laid
-pub laid_page : (image bytes : List ℕ) (n : ℕ) → 512 * n + 512 ≤ length image → length bytes ≡ 512 → page (laid image (512 * n) bytes) n ≡ bytes
+pub laid_page : (image bytes : List ℕ) (n : ℕ) → 512 * n + 512 ≤ length image → length bytes ≡ 512 → page (overwritten_at image (512 * n) bytes) n ≡ bytes
 unfolding page
 laid_page image bytes n within whole =
     ap (take 512) (ap (drop (512 * n)) (append_assoc (take (512 * n) image) bytes (drop (512 * n + length bytes) image))
@@ -46,12 +46,12 @@ laid_page image bytes n within whole =
     ∙ take_at bytes (drop (512 * n + length bytes) image) 512 whole
 
 -- the gate that was laid
-pub laid_gate : (image : List ℕ) (value : ℕ) → 17 ≤ length image → gate (laid image 16 (value ∷ [])) ≡ value
+pub laid_gate : (image : List ℕ) (value : ℕ) → 17 ≤ length image → gate (overwritten_at image 16 (value ∷ [])) ≡ value
 unfolding gate
-laid_gate image value long = laid-in image 16 (value ∷ []) (omega (arith, long)) 0 (omega arith)
+laid_gate image value long = overwritten_at-in image 16 (value ∷ []) (omega (arith, long)) 0 (omega arith)
 
 -- what stands behind the place of a write
-pub drop_laid : (image bytes : List ℕ) (at : ℕ) → at ≤ length image → drop at (laid image at bytes) ≡ bytes ++ drop (at + length bytes) image
+pub drop_laid : (image bytes : List ℕ) (at : ℕ) → at ≤ length image → drop at (overwritten_at image at bytes) ≡ bytes ++ drop (at + length bytes) image
 drop_laid image bytes at within =
     ap (drop at) (append_assoc (take at image) bytes (drop (at + length bytes) image))
     ∙ drop_at (take at image) (bytes ++ drop (at + length bytes) image) at (length-take-le at image within)

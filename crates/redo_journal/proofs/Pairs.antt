@@ -13,22 +13,22 @@ use Rattle.std.proofs.Math.Seq.{take-add}
 use Rattle.redo_journal.specs.declared.errors.StageError.{StageError}
 use Rattle.redo_journal.specs.Pages.{IsHome}
 use Rattle.redo_journal.specs.Header.{AreHomes}
-use Rattle.redo_journal.specs.Change.{paired, joined_images, with_page, ArePages, StagedPages, IsSound, IsStaged, IsAt, IsBetween, Stages}
+use Rattle.redo_journal.specs.Change.{page_entries, joined_images, with_page, ArePages, StagedPages, IsChange, IsStaged, IsPlaceOf, IsBetween, Stages}
 
-pub length-paired : (size : ℕ) (ns bytes : List ℕ) → length (paired size ns bytes) ≡ length ns
-length-paired size [] bytes = refl
-length-paired size (n ∷ ns) bytes = ap suc (length-paired size ns (drop size bytes))
+pub length-page_entries : (size : ℕ) (ns bytes : List ℕ) → length (page_entries size ns bytes) ≡ length ns
+length-page_entries size [] bytes = refl
+length-page_entries size (n ∷ ns) bytes = ap suc (length-page_entries size ns (drop size bytes))
 
-pub keys-paired : (size : ℕ) (ns bytes : List ℕ) → keys_of (paired size ns bytes) ≡ ns
-keys-paired size [] bytes = refl
-keys-paired size (n ∷ ns) bytes = ap (λ ks. n ∷ ks) (keys-paired size ns (drop size bytes))
+pub keys-page_entries : (size : ℕ) (ns bytes : List ℕ) → keys_of (page_entries size ns bytes) ≡ ns
+keys-page_entries size [] bytes = refl
+keys-page_entries size (n ∷ ns) bytes = ap (λ ks. n ∷ ks) (keys-page_entries size ns (drop size bytes))
 
 -- behind one another the pages are the bytes
-pub joined-paired : (ns bytes : List ℕ) → length bytes ≡ 512 * length ns → joined_images (paired 512 ns bytes) ≡ bytes
-joined-paired [] [] long = refl
-joined-paired [] (b ∷ bs) long = absurd (omega (arith, long))
-joined-paired (n ∷ ns) bytes long =
-    ap (λ xs. take 512 bytes ++ xs) (joined-paired ns (drop 512 bytes) (length-drop 512 bytes ∙ omega (arith, long)))
+pub joined-page_entries : (ns bytes : List ℕ) → length bytes ≡ 512 * length ns → joined_images (page_entries 512 ns bytes) ≡ bytes
+joined-page_entries [] [] long = refl
+joined-page_entries [] (b ∷ bs) long = absurd (omega (arith, long))
+joined-page_entries (n ∷ ns) bytes long =
+    ap (λ xs. take 512 bytes ++ xs) (joined-page_entries ns (drop 512 bytes) (length-drop 512 bytes ∙ omega (arith, long)))
     ∙ take-append-drop 512 bytes
 
 -- one page further on
@@ -44,18 +44,18 @@ front place bytes =
 
 -- the page at a place
 entry_at : (place : ℕ) (ns bytes : List ℕ) → place < length ns
-    → paired 512 ns bytes ≡ take place (paired 512 ns bytes) ++ (get_or ns place 0, take 512 (drop (512 * place) bytes)) ∷ drop (suc place) (paired 512 ns bytes)
+    → page_entries 512 ns bytes ≡ take place (page_entries 512 ns bytes) ++ (get_or ns place 0, take 512 (drop (512 * place) bytes)) ∷ drop (suc place) (page_entries 512 ns bytes)
 entry_at zero (n ∷ ns) bytes lt = refl
 entry_at (suc place) (n ∷ ns) bytes lt =
     ap (λ es. (n, take 512 bytes) ∷ es) (entry_at place ns (drop 512 bytes) (omega (arith, lt))
-    ∙ ap (λ xs. take place (paired 512 ns (drop 512 bytes)) ++ (get_or ns place 0, take 512 xs) ∷ drop (suc place) (paired 512 ns (drop 512 bytes))) (further place bytes))
+    ∙ ap (λ xs. take place (page_entries 512 ns (drop 512 bytes)) ++ (get_or ns place 0, take 512 xs) ∷ drop (suc place) (page_entries 512 ns (drop 512 bytes))) (further place bytes))
 entry_at place [] bytes lt = absurd (omega (arith, lt))
 
-pub entry-paired : (place : ℕ) (ns bytes : List ℕ) → place < length ns
-    → paired 512 ns bytes ≡ take place (paired 512 ns bytes) ++ (get_or ns place 0, take 512 (drop (512 * place) bytes)) ∷ drop (place + 1) (paired 512 ns bytes)
-entry-paired place ns bytes lt =
+pub entry-page_entries : (place : ℕ) (ns bytes : List ℕ) → place < length ns
+    → page_entries 512 ns bytes ≡ take place (page_entries 512 ns bytes) ++ (get_or ns place 0, take 512 (drop (512 * place) bytes)) ∷ drop (place + 1) (page_entries 512 ns bytes)
+entry-page_entries place ns bytes lt =
     let on : suc place ≡ place + 1 = omega arith in
-    entry_at place ns bytes lt ∙ ap (λ k. take place (paired 512 ns bytes) ++ (get_or ns place 0, take 512 (drop (512 * place) bytes)) ∷ drop k (paired 512 ns bytes)) on
+    entry_at place ns bytes lt ∙ ap (λ k. take place (page_entries 512 ns bytes) ++ (get_or ns place 0, take 512 (drop (512 * place) bytes)) ∷ drop k (page_entries 512 ns bytes)) on
 
 not_equal : (m n : ℕ) → (m ≡ n → ⊥) → (m == n) ≡ false
 not_equal m n apart = grind (arith, nat_tests)
@@ -98,10 +98,10 @@ with_page-some [] n page = omega arith
 with_page-some (e ∷ es) n page = some_of (nat_cmp n e.0) ((n, page) ∷ e ∷ es) ((e.0, page) ∷ es) (e ∷ with_page es n page) (omega arith) (omega arith) (omega arith)
 
 -- a first page, and then what stands behind it
-paired_on : (m : ℕ) (ns first rest : List ℕ) → length first ≡ 512 → paired 512 (m ∷ ns) (first ++ rest) ≡ (m, first) ∷ paired 512 ns rest
+paired_on : (m : ℕ) (ns first rest : List ℕ) → length first ≡ 512 → page_entries 512 (m ∷ ns) (first ++ rest) ≡ (m, first) ∷ page_entries 512 ns rest
 paired_on m ns first rest whole =
-    ap (λ p. (m, p) ∷ paired 512 ns (drop 512 (first ++ rest))) (take_at first rest 512 whole)
-    ∙ ap (λ xs. (m, first) ∷ paired 512 ns xs) (drop_at first rest 512 whole)
+    ap (λ p. (m, p) ∷ page_entries 512 ns (drop 512 (first ++ rest))) (take_at first rest 512 whole)
+    ∙ ap (λ xs. (m, first) ∷ page_entries 512 ns xs) (drop_at first rest 512 whole)
 
 -- what stands behind the first page, where a page further on is put or replaced
 split_on : (place : ℕ) (bytes tail : List ℕ) → take (512 * suc place) bytes ++ tail ≡ take 512 bytes ++ (take (512 * place) (drop 512 bytes) ++ tail)
@@ -114,32 +114,32 @@ later place [] last total n homes lt is = absurd (omega (arith, lt))
 
 -- a page takes the place of the one with its number
 pub replaced : (place total last n : ℕ) (ns bytes page : List ℕ) → AreHomes total last ns → place < length ns → get_or ns place 0 ≡ n → length page ≡ 512 → 512 * length ns ≤ length bytes
-    → paired 512 ns (take (512 * place) bytes ++ (page ++ drop (512 * place + 512) bytes)) ≡ with_page (paired 512 ns bytes) n page
+    → page_entries 512 ns (take (512 * place) bytes ++ (page ++ drop (512 * place + 512) bytes)) ≡ with_page (page_entries 512 ns bytes) n page
 replaced zero total last n (m ∷ ns) bytes page homes lt is whole fits =
-    paired_on m ns page (drop 512 bytes) whole ∙ sym (goes_here n m page (take 512 bytes) (paired 512 ns (drop 512 bytes)) (sym is))
+    paired_on m ns page (drop 512 bytes) whole ∙ sym (goes_here n m page (take 512 bytes) (page_entries 512 ns (drop 512 bytes)) (sym is))
 replaced (suc place) total last n (m ∷ ns) bytes page homes lt is whole fits =
     let on : 512 * suc place + 512 ≡ 512 + (512 * place + 512) = omega arith in
-    ap (paired 512 (m ∷ ns)) (split_on place bytes (page ++ drop (512 * suc place + 512) bytes))
+    ap (page_entries 512 (m ∷ ns)) (split_on place bytes (page ++ drop (512 * suc place + 512) bytes))
     ∙ paired_on m ns (take 512 bytes) (take (512 * place) (drop 512 bytes) ++ (page ++ drop (512 * suc place + 512) bytes)) (length-take-le 512 bytes (omega (arith, fits)))
-    ∙ ap (λ xs. (m, take 512 bytes) ∷ paired 512 ns (take (512 * place) (drop 512 bytes) ++ (page ++ xs))) (ap (λ k. drop k bytes) on ∙ sym (drop-drop (512 * place + 512) 512 bytes))
+    ∙ ap (λ xs. (m, take 512 bytes) ∷ page_entries 512 ns (take (512 * place) (drop 512 bytes) ++ (page ++ xs))) (ap (λ k. drop k bytes) on ∙ sym (drop-drop (512 * place + 512) 512 bytes))
     ∙ ap (λ es. (m, take 512 bytes) ∷ es) (replaced place total m n ns (drop 512 bytes) page homes.2 (omega (arith, lt)) is whole (omega (arith, fits, length-drop 512 bytes)))
-    ∙ sym (goes_behind n m page (take 512 bytes) (paired 512 ns (drop 512 bytes)) (later place ns m total n homes.2 (omega (arith, lt)) is))
+    ∙ sym (goes_behind n m page (take 512 bytes) (page_entries 512 ns (drop 512 bytes)) (later place ns m total n homes.2 (omega (arith, lt)) is))
 replaced place total last n [] bytes page homes lt is whole fits = absurd (omega (arith, lt))
 
 -- a page joins the others
 pub joins : (place n : ℕ) (ns bytes page : List ℕ) → place ≤ length ns → ((k : ℕ) → k < place → get_or ns k 0 < n) → ((k : ℕ) → place ≤ k → k < length ns → n < get_or ns k 0)
     → length page ≡ 512 → 512 * length ns ≤ length bytes
-    → paired 512 (insert ns place n) (take (512 * place) bytes ++ (page ++ drop (512 * place) bytes)) ≡ with_page (paired 512 ns bytes) n page
+    → page_entries 512 (insert ns place n) (take (512 * place) bytes ++ (page ++ drop (512 * place) bytes)) ≡ with_page (page_entries 512 ns bytes) n page
 joins zero n [] bytes page le below above whole fits = paired_on n [] page bytes whole
 joins zero n (m ∷ ns) bytes page le below above whole fits =
-    paired_on n (m ∷ ns) page bytes whole ∙ sym (goes_first n m page (take 512 bytes) (paired 512 ns (drop 512 bytes)) (above 0 (omega arith) (omega arith)))
+    paired_on n (m ∷ ns) page bytes whole ∙ sym (goes_first n m page (take 512 bytes) (page_entries 512 ns (drop 512 bytes)) (above 0 (omega arith) (omega arith)))
 joins (suc place) n (m ∷ ns) bytes page le below above whole fits =
-    ap (paired 512 (m ∷ insert ns place n)) (split_on place bytes (page ++ drop (512 * suc place) bytes))
+    ap (page_entries 512 (m ∷ insert ns place n)) (split_on place bytes (page ++ drop (512 * suc place) bytes))
     ∙ paired_on m (insert ns place n) (take 512 bytes) (take (512 * place) (drop 512 bytes) ++ (page ++ drop (512 * suc place) bytes)) (length-take-le 512 bytes (omega (arith, fits)))
-    ∙ ap (λ xs. (m, take 512 bytes) ∷ paired 512 (insert ns place n) (take (512 * place) (drop 512 bytes) ++ (page ++ xs))) (sym (further place bytes))
+    ∙ ap (λ xs. (m, take 512 bytes) ∷ page_entries 512 (insert ns place n) (take (512 * place) (drop 512 bytes) ++ (page ++ xs))) (sym (further place bytes))
     ∙ ap (λ es. (m, take 512 bytes) ∷ es) (joins place n ns (drop 512 bytes) page (omega (arith, le)) (λ k lt. below (suc k) (omega (arith, lt)))
     (λ k ge lt. above (suc k) (omega (arith, ge)) (omega (arith, lt))) whole (omega (arith, fits, length-drop 512 bytes)))
-    ∙ sym (goes_behind n m page (take 512 bytes) (paired 512 ns (drop 512 bytes)) (below 0 (omega arith)))
+    ∙ sym (goes_behind n m page (take 512 bytes) (page_entries 512 ns (drop 512 bytes)) (below 0 (omega arith)))
 joins (suc place) n [] bytes page le below above whole fits = absurd (omega (arith, le))
 
 -- the same of equal entries
@@ -150,20 +150,20 @@ is_at place es now n m page other same number pages is =
     (is ∙ ap (λ e. take place es ++ (e, page) ∷ drop (place + 1) es) (sym number) ∙ ap (λ p. take place es ++ (m, p) ∷ drop (place + 1) es) (sym pages))
 
 -- a number that isn't there
-absent : (n : ℕ) (ns bytes : List ℕ) → ((k : ℕ) → k < length ns → get_or ns k 0 ≡ n → ⊥) → lookup (λ m. m == n) (paired 512 ns bytes) ≡ None
+absent : (n : ℕ) (ns bytes : List ℕ) → ((k : ℕ) → k < length ns → get_or ns k 0 ≡ n → ⊥) → lookup (λ m. m == n) (page_entries 512 ns bytes) ≡ None
 absent n [] bytes none = refl
 absent n (m ∷ ns) bytes none =
-    ap (λ b. cond b (Some (take 512 bytes)) (lookup (λ k. k == n) (paired 512 ns (drop 512 bytes)))) (not_equal m n (none 0 (omega arith)))
+    ap (λ b. cond b (Some (take 512 bytes)) (lookup (λ k. k == n) (page_entries 512 ns (drop 512 bytes)))) (not_equal m n (none 0 (omega arith)))
     ∙ absent n ns (drop 512 bytes) (λ k lt. none (suc k) (omega (arith, lt)))
 
-pub absent_between : (n place : ℕ) (ns bytes : List ℕ) → IsBetween ns n place → lookup (λ m. m == n) (paired 512 ns bytes) ≡ None
+pub absent_between : (n place : ℕ) (ns bytes : List ℕ) → IsBetween ns n place → lookup (λ m. m == n) (page_entries 512 ns bytes) ≡ None
 absent_between n place ns bytes between =
     absent n ns bytes (λ k lt is. ⊎_elim (λ l. omega (arith, between.1 k l, is)) (λ l. omega (arith, between.2 k l lt, is)) (cases_lt k place))
 
 -- one that is
-pub present : (n place : ℕ) (ns bytes : List ℕ) → place < length ns → get_or ns place 0 ≡ n → IsSome (lookup (λ m. m == n) (paired 512 ns bytes))
-present n zero (m ∷ ns) bytes lt is = subst (λ (b : Bool). IsSome (cond b (Some (take 512 bytes)) (lookup (λ k. k == n) (paired 512 ns (drop 512 bytes))))) (sym (same_number m n is)) refl
-present n (suc place) (m ∷ ns) bytes lt is = some_or (m == n) (take 512 bytes) (lookup (λ k. k == n) (paired 512 ns (drop 512 bytes))) (present n place ns (drop 512 bytes) (omega (arith, lt)) is)
+pub present : (n place : ℕ) (ns bytes : List ℕ) → place < length ns → get_or ns place 0 ≡ n → IsSome (lookup (λ m. m == n) (page_entries 512 ns bytes))
+present n zero (m ∷ ns) bytes lt is = subst (λ (b : Bool). IsSome (cond b (Some (take 512 bytes)) (lookup (λ k. k == n) (page_entries 512 ns (drop 512 bytes))))) (sym (same_number m n is)) refl
+present n (suc place) (m ∷ ns) bytes lt is = some_or (m == n) (take 512 bytes) (lookup (λ k. k == n) (page_entries 512 ns (drop 512 bytes))) (present n place ns (drop 512 bytes) (omega (arith, lt)) is)
 present n place [] bytes lt is = absurd (omega (arith, lt))
 
 -- the numbers don't fall
@@ -202,29 +202,29 @@ module _ (total capacity n place : ℕ) (numbers body page : List ℕ) (staged :
   long : length (drop 512 body) ≡ 512 * length numbers
   long = length-drop 512 body ∙ omega (arith, staged.long)
 
-  pub stage_replaces : IsAt numbers n place
-      → Stages (Ok tt) (paired 512 numbers (drop 512 body)) n page (paired 512 numbers (drop 512 (take (512 * (place + 1)) body ++ (page ++ drop (512 * (place + 1) + 512) body))))
+  pub stage_replaces : IsPlaceOf numbers n place
+      → Stages (Ok tt) (page_entries 512 numbers (drop 512 body)) n page (page_entries 512 numbers (drop 512 (take (512 * (place + 1)) body ++ (page ++ drop (512 * (place + 1) + 512) body))))
   stage_replaces at =
       let on : 512 * (place + 1) + 512 ≡ 512 + (512 * place + 512) = omega arith in (
-        ap (paired 512 numbers) (split_behind place (512 * (place + 1) + 512) body page (omega (arith, at.0, staged.long))
+        ap (page_entries 512 numbers) (split_behind place (512 * (place + 1) + 512) body page (omega (arith, at.0, staged.long))
             ∙ ap (λ xs. take (512 * place) (drop 512 body) ++ (page ++ xs)) (ap (λ m. drop m body) on ∙ sym (drop-drop (512 * place + 512) 512 body)))
             ∙ replaced place total 0 n numbers (drop 512 body) page staged.homes at.0 at.1 whole (omega (arith, long)),
         inr (present n place numbers (drop 512 body) at.0 at.1),
       )
 
   pub stage_joins : IsBetween numbers n place → length numbers < 80
-      → Stages (Ok tt) (paired 512 numbers (drop 512 body)) n page (paired 512 (insert numbers place n) (drop 512 (take (512 * (place + 1)) body ++ (page ++ drop (512 * (place + 1)) body))))
+      → Stages (Ok tt) (page_entries 512 numbers (drop 512 body)) n page (page_entries 512 (insert numbers place n) (drop 512 (take (512 * (place + 1)) body ++ (page ++ drop (512 * (place + 1)) body))))
   stage_joins between room =
       let on : 512 * (place + 1) ≡ 512 + 512 * place = omega arith in (
-        ap (paired 512 (insert numbers place n)) (split_behind place (512 * (place + 1)) body page (omega (arith, between.0, staged.long))
+        ap (page_entries 512 (insert numbers place n)) (split_behind place (512 * (place + 1)) body page (omega (arith, between.0, staged.long))
             ∙ ap (λ xs. take (512 * place) (drop 512 body) ++ (page ++ xs)) (ap (λ m. drop m body) on ∙ sym (drop-drop (512 * place) 512 body)))
             ∙ joins place n numbers (drop 512 body) page between.0 between.1 between.2 whole (omega (arith, long)),
-        inl (omega (arith, room, length-paired 512 numbers (drop 512 body))),
+        inl (omega (arith, room, length-page_entries 512 numbers (drop 512 body))),
       )
 
-  pub stage_refuses : IsBetween numbers n place → length numbers ≡ 80 → (length (paired 512 numbers (drop 512 body)) ≡ 80) × (lookup (λ m. m == n) (paired 512 numbers (drop 512 body)) ≡ None)
+  pub stage_refuses : IsBetween numbers n place → length numbers ≡ 80 → (length (page_entries 512 numbers (drop 512 body)) ≡ 80) × (lookup (λ m. m == n) (page_entries 512 numbers (drop 512 body)) ≡ None)
   stage_refuses between full = (
-    length-paired 512 numbers (drop 512 body) ∙ full,
+    length-page_entries 512 numbers (drop 512 body) ∙ full,
     absent_between n place numbers (drop 512 body) between,
   )
 
@@ -248,17 +248,17 @@ home_at total last zero (n ∷ ns) homes lt = homes.0
 home_at total last (suc place) (n ∷ ns) homes lt = home_at total n place ns homes.2 (omega (arith, lt))
 home_at total last place [] homes lt = absurd (omega (arith, lt))
 
-pages-paired : (ns bytes : List ℕ) → 512 * length ns ≤ length bytes → ArePages (paired 512 ns bytes)
-pages-paired [] bytes long = tt
-pages-paired (n ∷ ns) bytes long = (length-take-le 512 bytes (omega (arith, long)), pages-paired ns (drop 512 bytes) (omega (arith, long, length-drop 512 bytes)))
+pages-page_entries : (ns bytes : List ℕ) → 512 * length ns ≤ length bytes → ArePages (page_entries 512 ns bytes)
+pages-page_entries [] bytes long = tt
+pages-page_entries (n ∷ ns) bytes long = (length-take-le 512 bytes (omega (arith, long)), pages-page_entries ns (drop 512 bytes) (omega (arith, long, length-drop 512 bytes)))
 
 -- what is kept in memory is sound
 pub is_sound : (total capacity : ℕ) (ns body : List ℕ) (now : StagedPages) → IsStaged total ns body capacity
-    → record { total = total; header = take 512 body; pages = paired 512 ns (drop 512 body) } ≡ now → IsSound now
-is_sound total capacity ns body now staged is = subst IsSound is (record {
-  few = omega (arith, staged.few, length-paired 512 ns (drop 512 body));
-  homes = subst (AreHomes total 0) (sym (keys-paired 512 ns (drop 512 body))) staged.homes;
-  whole = pages-paired ns (drop 512 body) (omega (arith, staged.long, length-drop 512 body));
+    → record { total = total; header = take 512 body; pages = page_entries 512 ns (drop 512 body) } ≡ now → IsChange now
+is_sound total capacity ns body now staged is = subst IsChange is (record {
+  few = omega (arith, staged.few, length-page_entries 512 ns (drop 512 body));
+  homes = subst (AreHomes total 0) (sym (keys-page_entries 512 ns (drop 512 body))) staged.homes;
+  whole = pages-page_entries ns (drop 512 body) (omega (arith, staged.long, length-drop 512 body));
   small = staged.small;
 })
 

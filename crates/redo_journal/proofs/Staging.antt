@@ -8,8 +8,8 @@ use Rattle.std.specs.Cmp.{nat_cmp_is}
 use Rattle.std.proofs.lemmas.Bool.{cases_lt}
 use Rattle.std.proofs.lemmas.Bool.Decides.{nat_tests}
 use Rattle.redo_journal.specs.Header.{AreHomes}
-use Rattle.redo_journal.specs.Redo.{over, replaced_by, is_among}
-use Rattle.redo_journal.specs.Staging.{JoinsOne, LaysOne}
+use Rattle.redo_journal.specs.Redo.{overlay, page_or, is_listed}
+use Rattle.redo_journal.specs.Staging.{AddsOne, OverlaysOne}
 use Rattle.redo_journal.specs.Change.{with_page}
 
 not_equal : (m n : ℕ) → (m ≡ n → ⊥) → (m == n) ≡ false
@@ -46,10 +46,10 @@ finds_others (e ∷ es) n k page other = by_order n e.0 page e.1 es (λ l. looku
     ap (λ b. cond b (Some page) (lookup (λ m. m == k) es)) apart ∙ sym (ap (λ b. cond b (Some e.1) (lookup (λ m. m == k) es)) apart))
     (λ lt. ap (λ found. cond (e.0 == k) (Some e.1) found) (finds_others es n k page other))
 
-pub lays_one : (es : List (ℕ × List ℕ)) (n : ℕ) (page : List ℕ) → LaysOne n page es (with_page es n page)
+pub lays_one : (es : List (ℕ × List ℕ)) (n : ℕ) (page : List ℕ) → OverlaysOne n page es (with_page es n page)
 lays_one es n page = record {
-  here = λ pages. ap (λ found. replaced_by found (pages n)) (finds_page es n page);
-  elsewhere = λ pages m other. ap (λ found. replaced_by found (pages m)) (finds_others es n m page other);
+  here = λ pages. ap (λ found. page_or found (pages n)) (finds_page es n page);
+  elsewhere = λ pages m other. ap (λ found. page_or found (pages m)) (finds_others es n m page other);
 }
 
 -- how many there are then, and which
@@ -68,14 +68,14 @@ twice : (a b : Bool) → (a || (a || b)) ≡ (a || b)
 twice true b = refl
 twice false b = refl
 
-numbers_then : (es : List (ℕ × List ℕ)) (n : ℕ) (page : List ℕ) (m : ℕ) → is_among m (keys_of (with_page es n page)) ≡ (n == m || is_among m (keys_of es))
+numbers_then : (es : List (ℕ × List ℕ)) (n : ℕ) (page : List ℕ) (m : ℕ) → is_listed m (keys_of (with_page es n page)) ≡ (n == m || is_listed m (keys_of es))
 numbers_then [] n page m = refl
-numbers_then (e ∷ es) n page m = by_order n e.0 page e.1 es (λ l. is_among m (keys_of l) ≡ (n == m || is_among m (keys_of (e ∷ es))))
+numbers_then (e ∷ es) n page m = by_order n e.0 page e.1 es (λ l. is_listed m (keys_of l) ≡ (n == m || is_listed m (keys_of (e ∷ es))))
     (λ lt. refl)
-    (λ is. sym (ap (λ k. (k == m || (e.0 == m || is_among m (keys_of es)))) is ∙ twice (e.0 == m) (is_among m (keys_of es))))
-    (λ lt. ap (λ b. e.0 == m || b) (numbers_then es n page m) ∙ swapped (e.0 == m) (n == m) (is_among m (keys_of es)))
+    (λ is. sym (ap (λ k. (k == m || (e.0 == m || is_listed m (keys_of es)))) is ∙ twice (e.0 == m) (is_listed m (keys_of es))))
+    (λ lt. ap (λ b. e.0 == m || b) (numbers_then es n page m) ∙ swapped (e.0 == m) (n == m) (is_listed m (keys_of es)))
 
-pub joins_one : (es : List (ℕ × List ℕ)) (n : ℕ) (page : List ℕ) → JoinsOne n es (with_page es n page)
+pub joins_one : (es : List (ℕ × List ℕ)) (n : ℕ) (page : List ℕ) → AddsOne n es (with_page es n page)
 joins_one es n page = record { no_fewer = (longer es n page).0; one_more = (longer es n page).1; numbers_are = numbers_then es n page }
 
 -- an entry that stands among rising ones is found by its number

@@ -8,29 +8,29 @@ use Rattle.redo_journal.specs.declared.errors.Field.{Field}
 use Rattle.redo_journal.specs.declared.errors.Field.TheVariants.{Count, Page}
 
 -- the number in the first four bytes, the highest byte first
-unfoldable pub number_of : List ℕ → ℕ
-number_of bytes = big_number 4 bytes
+unfoldable pub leading_number : List ℕ → ℕ
+leading_number bytes = big_number 4 bytes
 
 -- the four bytes of a number, the highest first
-unfoldable pub bytes_of : ℕ → List ℕ
-bytes_of n = big_bytes 4 n
+unfoldable pub number_bytes : ℕ → List ℕ
+number_bytes n = big_bytes 4 n
 
 -- the number of images
-abbrev pub count_of : List ℕ → ℕ
-count_of header = number_of header
+abbrev pub image_count : List ℕ → ℕ
+image_count header = leading_number header
 
 -- so many numbers of four bytes each, the highest byte first
 abbrev pub numbers_in : ℕ → List ℕ → List ℕ
 numbers_in zero bytes = []
-numbers_in (suc n) bytes = number_of bytes ∷ numbers_in n (drop 4 bytes)
+numbers_in (suc n) bytes = leading_number bytes ∷ numbers_in n (drop 4 bytes)
 
 -- the numbers of the pages
-unfoldable pub named : List ℕ → List ℕ
-named header = numbers_in (count_of header) (drop NUMBERS_AT header)
+unfoldable pub page_numbers : List ℕ → List ℕ
+page_numbers header = numbers_in (image_count header) (drop NUMBERS_AT header)
 
 -- the bytes of a header: the count, four zero bytes, the numbers, and zeros to the page's end
 unfoldable pub header_page : List ℕ → List ℕ
-header_page numbers = bytes_of (length numbers) ++ (replicate 4 0 ++ (flat_map bytes_of numbers ++ replicate (PAGE_SIZE - NUMBERS_AT - 4 * length numbers) 0))
+header_page numbers = number_bytes (length numbers) ++ (replicate 4 0 ++ (flat_map number_bytes numbers ++ replicate (PAGE_SIZE - NUMBERS_AT - 4 * length numbers) 0))
 
 -- a count in its range
 abbrev pub IsCount : ℕ → Type 0
@@ -43,8 +43,8 @@ AreHomes total last (n ∷ ns) = IsHome total n × (last < n) × AreHomes total 
 
 -- the header is in its ranges
 pub record IsHeader (total : ℕ) (header : List ℕ) : Type 0 where
-  pub count : IsCount (count_of header)
-  pub homes : AreHomes total 0 (named header)
+  pub count : IsCount (image_count header)
+  pub homes : AreHomes total 0 (page_numbers header)
 
 -- the number at this place is the first that isn't in its range
 abbrev pub FailsAt : ℕ → ℕ → List ℕ → ℕ → ℕ → Type 0
@@ -54,5 +54,5 @@ FailsAt total last (n ∷ ns) (suc place) number = IsHome total n × (last < n) 
 
 -- the field is the first of the header that isn't in its range
 abbrev pub IsFirstBad : ℕ → List ℕ → Field → Type 0
-IsFirstBad total header (Count count) = (count ≡ count_of header) × (IsCount count → ⊥)
-IsFirstBad total header (Page place number) = IsCount (count_of header) × FailsAt total 0 (named header) place number
+IsFirstBad total header (Count count) = (count ≡ image_count header) × (IsCount count → ⊥)
+IsFirstBad total header (Page place number) = IsCount (image_count header) × FailsAt total 0 (page_numbers header) place number

@@ -2,10 +2,10 @@
 //!
 //! All but [`grow_piece`] stay within the disk's size, and so take no memory.
 ghost use Rattle.std.specs.Prelude.{◌≡◌, ◌≤◌, ◌+◌, IsTrue, OnOk, length, take, drop};
-ghost use Rattle.spb_edge.specs.Fault.{IsCounted, counted};
-ghost use Rattle.spb_edge.specs.Disk.{laid};
-ghost use Rattle.spb_edge.specs.Crash.{Torn, Follows, Within, Only, Elapses, LeavesOnly};
-ghost use Rattle.redo_journal.specs.Growth.{Lays, GrowsTo, IsCountedGrowth};
+ghost use Rattle.spb_edge.specs.Fault.{CountsError, next_count};
+ghost use Rattle.spb_edge.specs.Disk.{overwritten_at};
+ghost use Rattle.spb_edge.specs.Crash.{IsTornWrite, FollowsBy, Includes, IsDurable, Elapses, CrashesLeaveOnly};
+ghost use Rattle.redo_journal.specs.Growth.{Lays, GrowsTo, CountsGrowFault};
 
 use crate::{DiskFault, GrowError};
 use spb_edge::{Disk, DiskError};
@@ -14,13 +14,13 @@ use spb_edge::{Disk, DiskError};
 /// bytes in this range. `DiskFault` comes only if the disk counted a fault in this call. One device call.
 pub fn write_piece<D: Disk>(disk: &mut D, at: u64, bytes: &[u8]) -> Result<(), DiskFault>
     requires { at + length bytes.now ≤ D.size_of disk.old }
-    ensures image { IsTrue (D.told disk.old) → OnOk result (D.image disk.new ≡ laid (D.image disk.old) at bytes.now) }
-    ensures told { (D.told disk.new ≡ D.told disk.old) × (D.tells_crashes disk.new ≡ D.tells_crashes disk.old) }
+    ensures image { IsTrue (D.is_known disk.old) → OnOk result (D.image disk.new ≡ overwritten_at (D.image disk.old) at bytes.now) }
+    ensures told { (D.is_known disk.new ≡ D.is_known disk.old) × (D.knows_crashes disk.new ≡ D.knows_crashes disk.old) }
     ensures size { D.size_of disk.new ≡ D.size_of disk.old }
-    ensures crash { Follows (Torn at (length bytes.now)) (D.may_leave disk.old) (D.may_leave disk.new) }
-    ensures time { Elapses (D.moment disk.old) (D.moment disk.new) (D.left_since disk.old) (D.left_since disk.new) (D.may_leave disk.new) }
-    ensures reads { IsTrue (D.told disk.old) → D.reads disk.new ≡ D.reads disk.old }
-    ensures fault { IsCounted result (D.faults disk.old) (D.faults disk.new) }
+    ensures crash { FollowsBy (IsTornWrite at (length bytes.now)) (D.crash_states disk.old) (D.crash_states disk.new) }
+    ensures time { Elapses (D.moment disk.old) (D.moment disk.new) (D.crash_states_since disk.old) (D.crash_states_since disk.new) (D.crash_states disk.new) }
+    ensures reads { IsTrue (D.is_known disk.old) → D.reads disk.new ≡ D.reads disk.old }
+    ensures fault { CountsError result (D.faults disk.old) (D.faults disk.new) }
 {
     match disk.write_at(at, bytes) {
         Ok(()) => Ok(()),
@@ -33,14 +33,14 @@ pub fn write_piece<D: Disk>(disk: &mut D, at: u64, bytes: &[u8]) -> Result<(), D
 /// the disk counted a fault in this call. One device call.
 pub fn read_piece<D: Disk>(disk: &mut D, at: u64, into: &mut [u8]) -> Result<(), DiskFault>
     requires { at + length into.old ≤ D.size_of disk.old }
-    ensures data { IsTrue (D.told disk.old) → OnOk result (into.new ≡ take (length into.old) (drop at (D.image disk.old))) }
+    ensures data { IsTrue (D.is_known disk.old) → OnOk result (into.new ≡ take (length into.old) (drop at (D.image disk.old))) }
     ensures filled { length into.new ≡ length into.old }
     ensures quiet { D.quiet disk.old disk.new }
-    ensures image { IsTrue (D.told disk.old) → D.image disk.new ≡ D.image disk.old }
-    ensures told { (D.told disk.new ≡ D.told disk.old) × (D.tells_crashes disk.new ≡ D.tells_crashes disk.old) }
+    ensures image { IsTrue (D.is_known disk.old) → D.image disk.new ≡ D.image disk.old }
+    ensures told { (D.is_known disk.new ≡ D.is_known disk.old) × (D.knows_crashes disk.new ≡ D.knows_crashes disk.old) }
     ensures size { D.size_of disk.new ≡ D.size_of disk.old }
-    ensures reads { IsTrue (D.told disk.old) → D.reads disk.new ≡ counted (D.reads disk.old) }
-    ensures fault { IsCounted result (D.faults disk.old) (D.faults disk.new) }
+    ensures reads { IsTrue (D.is_known disk.old) → D.reads disk.new ≡ next_count (D.reads disk.old) }
+    ensures fault { CountsError result (D.faults disk.old) (D.faults disk.new) }
 {
     match disk.read(at, into) {
         Ok(()) => Ok(()),
@@ -52,14 +52,14 @@ pub fn read_piece<D: Disk>(disk: &mut D, at: u64, into: &mut [u8]) -> Result<(),
 /// Asks that what was written be kept: after Ok a crash leaves the image as it reads. `DiskFault` comes
 /// only if the disk counted a fault in this call. One device call.
 pub fn sync_all<D: Disk>(disk: &mut D) -> Result<(), DiskFault>
-    ensures kept { IsTrue (D.told disk.old) → IsTrue (D.tells_crashes disk.old) → OnOk result (Only (D.image disk.new) (D.may_leave disk.new)) }
-    ensures image { IsTrue (D.told disk.old) → D.image disk.new ≡ D.image disk.old }
-    ensures told { (D.told disk.new ≡ D.told disk.old) × (D.tells_crashes disk.new ≡ D.tells_crashes disk.old) }
+    ensures kept { IsTrue (D.is_known disk.old) → IsTrue (D.knows_crashes disk.old) → OnOk result (IsDurable (D.image disk.new) (D.crash_states disk.new)) }
+    ensures image { IsTrue (D.is_known disk.old) → D.image disk.new ≡ D.image disk.old }
+    ensures told { (D.is_known disk.new ≡ D.is_known disk.old) × (D.knows_crashes disk.new ≡ D.knows_crashes disk.old) }
     ensures size { D.size_of disk.new ≡ D.size_of disk.old }
-    ensures crash { Within (D.may_leave disk.old) (D.may_leave disk.new) }
-    ensures time { Elapses (D.moment disk.old) (D.moment disk.new) (D.left_since disk.old) (D.left_since disk.new) (D.may_leave disk.new) }
-    ensures reads { IsTrue (D.told disk.old) → D.reads disk.new ≡ D.reads disk.old }
-    ensures fault { IsCounted result (D.faults disk.old) (D.faults disk.new) }
+    ensures crash { Includes (D.crash_states disk.old) (D.crash_states disk.new) }
+    ensures time { Elapses (D.moment disk.old) (D.moment disk.new) (D.crash_states_since disk.old) (D.crash_states_since disk.new) (D.crash_states disk.new) }
+    ensures reads { IsTrue (D.is_known disk.old) → D.reads disk.new ≡ D.reads disk.old }
+    ensures fault { CountsError result (D.faults disk.old) (D.faults disk.new) }
 {
     match disk.sync() {
         Ok(()) => Ok(()),
@@ -75,14 +75,14 @@ pub fn sync_all<D: Disk>(disk: &mut D) -> Result<(), DiskFault>
 /// two device calls.
 pub fn write_and_keep<D: Disk>(disk: &mut D, at: u64, bytes: &[u8]) -> Result<(), DiskFault>
     requires { at + length bytes.now ≤ D.size_of disk.old }
-    ensures image { IsTrue (D.told disk.old) → OnOk result (D.image disk.new ≡ laid (D.image disk.old) at bytes.now) }
-    ensures kept { IsTrue (D.told disk.old) → IsTrue (D.tells_crashes disk.old) → OnOk result (Only (D.image disk.new) (D.may_leave disk.new)) }
-    ensures any_moment { Only (D.image disk.old) (D.may_leave disk.old)
-        → LeavesOnly D.moment D.left_since disk.old disk.new (Torn at (length bytes.now) (D.image disk.old)) }
-    ensures told { (D.told disk.new ≡ D.told disk.old) × (D.tells_crashes disk.new ≡ D.tells_crashes disk.old) }
+    ensures image { IsTrue (D.is_known disk.old) → OnOk result (D.image disk.new ≡ overwritten_at (D.image disk.old) at bytes.now) }
+    ensures kept { IsTrue (D.is_known disk.old) → IsTrue (D.knows_crashes disk.old) → OnOk result (IsDurable (D.image disk.new) (D.crash_states disk.new)) }
+    ensures any_moment { IsDurable (D.image disk.old) (D.crash_states disk.old)
+        → CrashesLeaveOnly D.moment D.crash_states_since disk.old disk.new (IsTornWrite at (length bytes.now) (D.image disk.old)) }
+    ensures told { (D.is_known disk.new ≡ D.is_known disk.old) × (D.knows_crashes disk.new ≡ D.knows_crashes disk.old) }
     ensures size { D.size_of disk.new ≡ D.size_of disk.old }
-    ensures reads { IsTrue (D.told disk.old) → D.reads disk.new ≡ D.reads disk.old }
-    ensures fault { IsCounted result (D.faults disk.old) (D.faults disk.new) }
+    ensures reads { IsTrue (D.is_known disk.old) → D.reads disk.new ≡ D.reads disk.old }
+    ensures fault { CountsError result (D.faults disk.old) (D.faults disk.new) }
 {
     write_piece(disk, at, bytes)?;
     sync_all(disk)
@@ -95,13 +95,13 @@ pub fn write_and_keep<D: Disk>(disk: &mut D, at: u64, bytes: &[u8]) -> Result<()
 /// the disk's end. One device call.
 pub fn grow_piece<D: Disk>(disk: &mut D, at: u64, bytes: &[u8]) -> Result<(), GrowError>
     requires { at ≤ D.size_of disk.old }
-    ensures image { IsTrue (D.told disk.old) → Lays result at bytes.now (D.image disk.old) (D.image disk.new) }
-    ensures told { (D.told disk.new ≡ D.told disk.old) × (D.tells_crashes disk.new ≡ D.tells_crashes disk.old) }
+    ensures image { IsTrue (D.is_known disk.old) → Lays result at bytes.now (D.image disk.old) (D.image disk.new) }
+    ensures told { (D.is_known disk.new ≡ D.is_known disk.old) × (D.knows_crashes disk.new ≡ D.knows_crashes disk.old) }
     ensures size { GrowsTo result (D.size_of disk.old) (at + length bytes.now) (D.size_of disk.new) }
-    ensures crash { Follows (Torn at (length bytes.now)) (D.may_leave disk.old) (D.may_leave disk.new) }
-    ensures time { Elapses (D.moment disk.old) (D.moment disk.new) (D.left_since disk.old) (D.left_since disk.new) (D.may_leave disk.new) }
-    ensures reads { IsTrue (D.told disk.old) → D.reads disk.new ≡ D.reads disk.old }
-    ensures fault { IsCountedGrowth result (D.size_of disk.old) (at + length bytes.now) (D.faults disk.old) (D.faults disk.new) }
+    ensures crash { FollowsBy (IsTornWrite at (length bytes.now)) (D.crash_states disk.old) (D.crash_states disk.new) }
+    ensures time { Elapses (D.moment disk.old) (D.moment disk.new) (D.crash_states_since disk.old) (D.crash_states_since disk.new) (D.crash_states disk.new) }
+    ensures reads { IsTrue (D.is_known disk.old) → D.reads disk.new ≡ D.reads disk.old }
+    ensures fault { CountsGrowFault result (D.size_of disk.old) (at + length bytes.now) (D.faults disk.old) (D.faults disk.new) }
 {
     match disk.write_at(at, bytes) {
         Ok(()) => Ok(()),

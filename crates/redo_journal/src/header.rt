@@ -2,7 +2,7 @@
 ghost use Rattle.std.specs.Prelude.{◌≡◌, ◌<◌, ◌≤◌, ◌↔◌, IfOk, IfErr, IsTrue, length};
 ghost use Rattle.redo_journal.specs.declared.layout.TheConstants.{CHANGE_LIMIT};
 ghost use Rattle.redo_journal.specs.Pages.{IsHome};
-ghost use Rattle.redo_journal.specs.Header.{header_page, number_of, named, IsCount, IsHeader, IsFirstBad};
+ghost use Rattle.redo_journal.specs.Header.{header_page, leading_number, page_numbers, IsCount, IsHeader, IsFirstBad};
 
 use crate::Field;
 use crate::layout::{CHANGE_LIMIT, FIRST_HOME, HEADER_PAGE, NUMBERS_AT, PAGE_SIZE};
@@ -23,7 +23,7 @@ pub(crate) fn is_home(total: u32, n: u32) -> bool
 #[tactic(auto, unfolding(crate::specs::Header::number_of))]
 fn number_in(bytes: &[u8]) -> u32
     requires { 4 ≤ length bytes.now }
-    ensures { result ≡ number_of bytes.now }
+    ensures { result ≡ leading_number bytes.now }
 {
     BigEndian::read_u32(bytes)
 }
@@ -59,7 +59,7 @@ pub(crate) fn header_of(numbers: &[u32]) -> [u8; PAGE_SIZE]
 /// The numbers of the pages in a header of a file of so many pages, or the first field of it that is
 /// out of its range.
 pub(crate) fn read_header(total: u32, header: &[u8; PAGE_SIZE]) -> Result<Numbers, Field>
-    ensures good { IfOk result (λ numbers. (numbers.items ≡ named header.now) × IsHeader total header.now) }
+    ensures good { IfOk result (λ numbers. (numbers.items ≡ page_numbers header.now) × IsHeader total header.now) }
     ensures bad { IfErr result (λ field. IsFirstBad total header.now field) }
 {
     let count = number_in(header);

@@ -1,14 +1,14 @@
 //! A journal with a gate over a disk.
 ghost use Rattle.std.specs.Prelude.{◌≡◌, ◌⊎◌, ◌*◌, ◌<◌, ◌≤◌, ◌==◌, [], List, ℕ, false, IsTrue, OnOk, IfOk, IfErr, IfSome, MatchOption, None, Some, length};
 ghost use Rattle.std.specs.Map.{lookup};
-ghost use Rattle.spb_edge.specs.Fault.{IsCounted, counted};
-ghost use Rattle.spb_edge.specs.Crash.{Only, LeavesOnly};
+ghost use Rattle.spb_edge.specs.Fault.{CountsError, next_count};
+ghost use Rattle.spb_edge.specs.Crash.{IsDurable, CrashesLeaveOnly};
 ghost use Rattle.redo_journal.specs.declared.layout.TheConstants.{PAGE_SIZE, CHANGE_LIMIT, HEADER_PAGE, LEAST_PAGES, CLOSED_GATE};
 ghost use Rattle.redo_journal.specs.Pages.{page, gate, IsHome};
-ghost use Rattle.redo_journal.specs.Header.{named};
-ghost use Rattle.redo_journal.specs.Redo.{is_open, HasHome, DiffersWithin};
-ghost use Rattle.redo_journal.specs.Change.{with_page, Stages, Holds, Commits, IsLeftBy, IsRedone, Recovers, OnBadHeader, IsCountedFault};
-ghost use Rattle.redo_journal.specs.Staging.{JoinsOne, LaysOne};
+ghost use Rattle.redo_journal.specs.Header.{page_numbers};
+ghost use Rattle.redo_journal.specs.Redo.{has_open_gate, RecoversTo, DiffersWithin};
+ghost use Rattle.redo_journal.specs.Change.{with_page, Stages, HoldsChange, Commits, IsBeforeOrAfter, IsRedone, Recovers, OnBadHeader, CountsRecoverFault};
+ghost use Rattle.redo_journal.specs.Staging.{AddsOne, OverlaysOne};
 
 use crate::layout::PAGE_SIZE;
 use crate::moves::{commit_staged, settle_staged};
@@ -99,27 +99,27 @@ impl<'a, D: Disk> Journal<'a, D> {
     pub fn recover(&mut self) -> Result<(), RecoverError>
         requires pages { HasPages D.size_of self.old }
         requires none { staged_of self.old ≡ [] }
-        ensures recovers { IsTrue (D.told (disk_of self.old))
+        ensures recovers { IsTrue (D.is_known (disk_of self.old))
             → Recovers (total_of self.old) result (D.image (disk_of self.old)) (D.image (disk_of self.new)) }
-        ensures home { IsTrue (D.told (disk_of self.old)) → (marks : List ℕ) (home : ℕ → List ℕ)
-            → HasHome (total_of self.old) (D.image (disk_of self.old)) marks home → OnOk result (HasHome (total_of self.old) (D.image (disk_of self.new)) marks home) }
-        ensures closed { IsTrue (D.told (disk_of self.old)) → OnOk result (is_open (D.image (disk_of self.new)) ≡ false) }
-        ensures any_start { IsTrue (D.told (disk_of self.old)) → IsTrue (D.tells_crashes (disk_of self.old))
-            → (marks : List ℕ) (home : ℕ → List ℕ) → HasHome (total_of self.old) (D.image (disk_of self.old)) marks home
-            → LeavesOnly D.moment D.left_since (disk_of self.old) (disk_of self.new)
-            (λ c. D.may_leave (disk_of self.old) c ⊎ HasHome (total_of self.old) c marks home) }
-        ensures any_moment { IsTrue (D.told (disk_of self.old)) → IsTrue (D.tells_crashes (disk_of self.old))
-            → Only (D.image (disk_of self.old)) (D.may_leave (disk_of self.old)) → (marks : List ℕ) (home : ℕ → List ℕ)
-            → HasHome (total_of self.old) (D.image (disk_of self.old)) marks home
-            → LeavesOnly D.moment D.left_since (disk_of self.old) (disk_of self.new) (λ c. HasHome (total_of self.old) c marks home) }
-        ensures kept { IsTrue (D.told (disk_of self.old)) → IsTrue (D.tells_crashes (disk_of self.old))
-            → OnOk result (Only (D.image (disk_of self.new)) (D.may_leave (disk_of self.new))) }
-        ensures unwritten { OnBadHeader result (LeavesOnly D.moment D.left_since (disk_of self.old) (disk_of self.new) (D.may_leave (disk_of self.old))) }
+        ensures home { IsTrue (D.is_known (disk_of self.old)) → (marks : List ℕ) (home : ℕ → List ℕ)
+            → RecoversTo (total_of self.old) (D.image (disk_of self.old)) marks home → OnOk result (RecoversTo (total_of self.old) (D.image (disk_of self.new)) marks home) }
+        ensures closed { IsTrue (D.is_known (disk_of self.old)) → OnOk result (has_open_gate (D.image (disk_of self.new)) ≡ false) }
+        ensures any_start { IsTrue (D.is_known (disk_of self.old)) → IsTrue (D.knows_crashes (disk_of self.old))
+            → (marks : List ℕ) (home : ℕ → List ℕ) → RecoversTo (total_of self.old) (D.image (disk_of self.old)) marks home
+            → CrashesLeaveOnly D.moment D.crash_states_since (disk_of self.old) (disk_of self.new)
+            (λ c. D.crash_states (disk_of self.old) c ⊎ RecoversTo (total_of self.old) c marks home) }
+        ensures any_moment { IsTrue (D.is_known (disk_of self.old)) → IsTrue (D.knows_crashes (disk_of self.old))
+            → IsDurable (D.image (disk_of self.old)) (D.crash_states (disk_of self.old)) → (marks : List ℕ) (home : ℕ → List ℕ)
+            → RecoversTo (total_of self.old) (D.image (disk_of self.old)) marks home
+            → CrashesLeaveOnly D.moment D.crash_states_since (disk_of self.old) (disk_of self.new) (λ c. RecoversTo (total_of self.old) c marks home) }
+        ensures kept { IsTrue (D.is_known (disk_of self.old)) → IsTrue (D.knows_crashes (disk_of self.old))
+            → OnOk result (IsDurable (D.image (disk_of self.new)) (D.crash_states (disk_of self.new))) }
+        ensures unwritten { OnBadHeader result (CrashesLeaveOnly D.moment D.crash_states_since (disk_of self.old) (disk_of self.new) (D.crash_states (disk_of self.old))) }
         ensures cleared { OnOk result (staged_of self.new ≡ []) }
         ensures pages { HasPages D.size_of self.new }
         ensures total { total_of self.new ≡ total_of self.old }
-        ensures told { (D.told (disk_of self.new) ≡ D.told (disk_of self.old)) × (D.tells_crashes (disk_of self.new) ≡ D.tells_crashes (disk_of self.old)) }
-        ensures fault { IsCountedFault result (D.faults (disk_of self.old)) (D.faults (disk_of self.new)) }
+        ensures told { (D.is_known (disk_of self.new) ≡ D.is_known (disk_of self.old)) × (D.knows_crashes (disk_of self.new) ≡ D.knows_crashes (disk_of self.old)) }
+        ensures fault { CountsRecoverFault result (D.faults (disk_of self.old)) (D.faults (disk_of self.new)) }
         ensures name { self.new.disk.ghost_name ≡ self.old.disk.ghost_name }
     {
         recover_staged(self.disk, &mut self.staged)
@@ -130,14 +130,14 @@ impl<'a, D: Disk> Journal<'a, D> {
     pub fn read_page(&mut self, n: u32, into: &mut [u8; PAGE_SIZE]) -> Result<(), DiskFault>
         requires pages { HasPages D.size_of self.old }
         requires within { n < total_of self.old }
-        ensures data { IsTrue (D.told (disk_of self.old)) → OnOk result (into.new ≡ page (D.image (disk_of self.old)) n) }
+        ensures data { IsTrue (D.is_known (disk_of self.old)) → OnOk result (into.new ≡ page (D.image (disk_of self.old)) n) }
         ensures quiet { D.quiet (disk_of self.old) (disk_of self.new) }
-        ensures image { IsTrue (D.told (disk_of self.old)) → D.image (disk_of self.new) ≡ D.image (disk_of self.old) }
-        ensures reads { IsTrue (D.told (disk_of self.old)) → D.reads (disk_of self.new) ≡ counted (D.reads (disk_of self.old)) }
+        ensures image { IsTrue (D.is_known (disk_of self.old)) → D.image (disk_of self.new) ≡ D.image (disk_of self.old) }
+        ensures reads { IsTrue (D.is_known (disk_of self.old)) → D.reads (disk_of self.new) ≡ next_count (D.reads (disk_of self.old)) }
         ensures staged { (staged_of self.new ≡ staged_of self.old) × (total_of self.new ≡ total_of self.old) }
         ensures pages { HasPages D.size_of self.new }
-        ensures told { (D.told (disk_of self.new) ≡ D.told (disk_of self.old)) × (D.tells_crashes (disk_of self.new) ≡ D.tells_crashes (disk_of self.old)) }
-        ensures fault { IsCounted result (D.faults (disk_of self.old)) (D.faults (disk_of self.new)) }
+        ensures told { (D.is_known (disk_of self.new) ≡ D.is_known (disk_of self.old)) × (D.knows_crashes (disk_of self.new) ≡ D.knows_crashes (disk_of self.old)) }
+        ensures fault { CountsError result (D.faults (disk_of self.old)) (D.faults (disk_of self.new)) }
         ensures name { self.new.disk.ghost_name ≡ self.old.disk.ghost_name }
     {
         read_page(self.disk, n, into)
@@ -186,19 +186,19 @@ impl<'a, D: Disk> Journal<'a, D> {
     pub fn commit(&mut self) -> Result<(), DiskFault>
         requires pages { HasPages D.size_of self.old }
         requires some { 0 < length (staged_of self.old) }
-        ensures commits { IsTrue (D.told (disk_of self.old))
+        ensures commits { IsTrue (D.is_known (disk_of self.old))
             → OnOk result (Commits (total_of self.old) (staged_of self.old) (D.image (disk_of self.old)) (D.image (disk_of self.new))) }
-        ensures any_moment { IsTrue (D.told (disk_of self.old)) → IsTrue (D.tells_crashes (disk_of self.old))
-            → Only (D.image (disk_of self.old)) (D.may_leave (disk_of self.old)) → (marks : List ℕ) (home : ℕ → List ℕ)
-            → HasHome (total_of self.old) (D.image (disk_of self.old)) marks home → is_open (D.image (disk_of self.old)) ≡ false
-            → LeavesOnly D.moment D.left_since (disk_of self.old) (disk_of self.new) (IsLeftBy (total_of self.old) (staged_of self.old) marks home) }
-        ensures kept { IsTrue (D.told (disk_of self.old)) → IsTrue (D.tells_crashes (disk_of self.old))
-            → OnOk result (Only (D.image (disk_of self.new)) (D.may_leave (disk_of self.new))) }
+        ensures any_moment { IsTrue (D.is_known (disk_of self.old)) → IsTrue (D.knows_crashes (disk_of self.old))
+            → IsDurable (D.image (disk_of self.old)) (D.crash_states (disk_of self.old)) → (marks : List ℕ) (home : ℕ → List ℕ)
+            → RecoversTo (total_of self.old) (D.image (disk_of self.old)) marks home → has_open_gate (D.image (disk_of self.old)) ≡ false
+            → CrashesLeaveOnly D.moment D.crash_states_since (disk_of self.old) (disk_of self.new) (IsBeforeOrAfter (total_of self.old) (staged_of self.old) marks home) }
+        ensures kept { IsTrue (D.is_known (disk_of self.old)) → IsTrue (D.knows_crashes (disk_of self.old))
+            → OnOk result (IsDurable (D.image (disk_of self.new)) (D.crash_states (disk_of self.new))) }
         ensures staged { (staged_of self.new ≡ staged_of self.old) × (total_of self.new ≡ total_of self.old) }
         ensures pages { HasPages D.size_of self.new }
-        ensures reads { IsTrue (D.told (disk_of self.old)) → D.reads (disk_of self.new) ≡ D.reads (disk_of self.old) }
-        ensures told { (D.told (disk_of self.new) ≡ D.told (disk_of self.old)) × (D.tells_crashes (disk_of self.new) ≡ D.tells_crashes (disk_of self.old)) }
-        ensures fault { IsCounted result (D.faults (disk_of self.old)) (D.faults (disk_of self.new)) }
+        ensures reads { IsTrue (D.is_known (disk_of self.old)) → D.reads (disk_of self.new) ≡ D.reads (disk_of self.old) }
+        ensures told { (D.is_known (disk_of self.new) ≡ D.is_known (disk_of self.old)) × (D.knows_crashes (disk_of self.new) ≡ D.knows_crashes (disk_of self.old)) }
+        ensures fault { CountsError result (D.faults (disk_of self.old)) (D.faults (disk_of self.new)) }
         ensures name { self.new.disk.ghost_name ≡ self.old.disk.ghost_name }
     {
         commit_staged(self.disk, &mut self.staged)
@@ -211,23 +211,23 @@ impl<'a, D: Disk> Journal<'a, D> {
     /// again then. A device call for each page, and three more.
     pub fn settle(&mut self) -> Result<(), DiskFault>
         requires pages { HasPages D.size_of self.old }
-        ensures settles { IsTrue (D.told (disk_of self.old)) → Holds (staged_of self.old) (D.image (disk_of self.old))
+        ensures settles { IsTrue (D.is_known (disk_of self.old)) → HoldsChange (staged_of self.old) (D.image (disk_of self.old))
             → OnOk result (IsRedone (total_of self.old) (D.image (disk_of self.old)) (D.image (disk_of self.new))) }
-        ensures home { IsTrue (D.told (disk_of self.old)) → Holds (staged_of self.old) (D.image (disk_of self.old)) → (marks : List ℕ) (home : ℕ → List ℕ)
-            → HasHome (total_of self.old) (D.image (disk_of self.old)) marks home → OnOk result (HasHome (total_of self.old) (D.image (disk_of self.new)) marks home) }
-        ensures closed { IsTrue (D.told (disk_of self.old)) → OnOk result (gate (D.image (disk_of self.new)) ≡ CLOSED_GATE) }
-        ensures any_moment { IsTrue (D.told (disk_of self.old)) → IsTrue (D.tells_crashes (disk_of self.old))
-            → Only (D.image (disk_of self.old)) (D.may_leave (disk_of self.old)) → Holds (staged_of self.old) (D.image (disk_of self.old))
-            → (marks : List ℕ) (home : ℕ → List ℕ) → HasHome (total_of self.old) (D.image (disk_of self.old)) marks home
-            → LeavesOnly D.moment D.left_since (disk_of self.old) (disk_of self.new) (λ c. HasHome (total_of self.old) c marks home) }
-        ensures kept { IsTrue (D.told (disk_of self.old)) → IsTrue (D.tells_crashes (disk_of self.old))
-            → OnOk result (Only (D.image (disk_of self.new)) (D.may_leave (disk_of self.new))) }
+        ensures home { IsTrue (D.is_known (disk_of self.old)) → HoldsChange (staged_of self.old) (D.image (disk_of self.old)) → (marks : List ℕ) (home : ℕ → List ℕ)
+            → RecoversTo (total_of self.old) (D.image (disk_of self.old)) marks home → OnOk result (RecoversTo (total_of self.old) (D.image (disk_of self.new)) marks home) }
+        ensures closed { IsTrue (D.is_known (disk_of self.old)) → OnOk result (gate (D.image (disk_of self.new)) ≡ CLOSED_GATE) }
+        ensures any_moment { IsTrue (D.is_known (disk_of self.old)) → IsTrue (D.knows_crashes (disk_of self.old))
+            → IsDurable (D.image (disk_of self.old)) (D.crash_states (disk_of self.old)) → HoldsChange (staged_of self.old) (D.image (disk_of self.old))
+            → (marks : List ℕ) (home : ℕ → List ℕ) → RecoversTo (total_of self.old) (D.image (disk_of self.old)) marks home
+            → CrashesLeaveOnly D.moment D.crash_states_since (disk_of self.old) (disk_of self.new) (λ c. RecoversTo (total_of self.old) c marks home) }
+        ensures kept { IsTrue (D.is_known (disk_of self.old)) → IsTrue (D.knows_crashes (disk_of self.old))
+            → OnOk result (IsDurable (D.image (disk_of self.new)) (D.crash_states (disk_of self.new))) }
         ensures cleared { OnOk result (staged_of self.new ≡ []) }
         ensures total { total_of self.new ≡ total_of self.old }
         ensures pages { HasPages D.size_of self.new }
-        ensures reads { IsTrue (D.told (disk_of self.old)) → D.reads (disk_of self.new) ≡ D.reads (disk_of self.old) }
-        ensures told { (D.told (disk_of self.new) ≡ D.told (disk_of self.old)) × (D.tells_crashes (disk_of self.new) ≡ D.tells_crashes (disk_of self.old)) }
-        ensures fault { IsCounted result (D.faults (disk_of self.old)) (D.faults (disk_of self.new)) }
+        ensures reads { IsTrue (D.is_known (disk_of self.old)) → D.reads (disk_of self.new) ≡ D.reads (disk_of self.old) }
+        ensures told { (D.is_known (disk_of self.new) ≡ D.is_known (disk_of self.old)) × (D.knows_crashes (disk_of self.new) ≡ D.knows_crashes (disk_of self.old)) }
+        ensures fault { CountsError result (D.faults (disk_of self.old)) (D.faults (disk_of self.new)) }
         ensures name { self.new.disk.ghost_name ≡ self.old.disk.ghost_name }
     {
         settle_staged(self.disk, &mut self.staged)
@@ -238,23 +238,23 @@ impl<'a, D: Disk> Journal<'a, D> {
 /// header in its ranges, an image that differs at most within the pages that the header names stands for
 /// the same. The call does nothing.
 pub fn home_survives()
-    ensures { (total : ℕ) (image other marks : List ℕ) (home : ℕ → List ℕ) → HasHome total image marks home → IsTrue (is_open image)
-        → DiffersWithin total (named (page image HEADER_PAGE)) image other → HasHome total other marks home }
+    ensures { (total : ℕ) (image other marks : List ℕ) (home : ℕ → List ℕ) → RecoversTo total image marks home → IsTrue (has_open_gate image)
+        → DiffersWithin total (page_numbers (page image HEADER_PAGE)) image other → RecoversTo total other marks home }
 {}
 
 /// An image as a recovery leaves it stands for what it stood for, as a contract. The call does nothing.
 pub fn home_is_redone()
-    ensures { (total : ℕ) (old new marks : List ℕ) (home : ℕ → List ℕ) → IsRedone total old new → HasHome total old marks home → HasHome total new marks home }
+    ensures { (total : ℕ) (old new marks : List ℕ) (home : ℕ → List ℕ) → IsRedone total old new → RecoversTo total old marks home → RecoversTo total new marks home }
 {}
 
 /// Staging a page adds at most one page to a change, and no number but its own, as a contract. The call
 /// does nothing.
 pub fn staging_joins_one()
-    ensures { (entries : List (ℕ × List ℕ)) (n : ℕ) (page : List ℕ) → JoinsOne n entries (with_page entries n page) }
+    ensures { (entries : List (ℕ × List ℕ)) (n : ℕ) (page : List ℕ) → AddsOne n entries (with_page entries n page) }
 {}
 
 /// Over any pages, a staged page stands at its number and changes no other, as a contract. The call does
 /// nothing.
 pub fn staging_lays_one()
-    ensures { (entries : List (ℕ × List ℕ)) (n : ℕ) (page : List ℕ) → LaysOne n page entries (with_page entries n page) }
+    ensures { (entries : List (ℕ × List ℕ)) (n : ℕ) (page : List ℕ) → OverlaysOne n page entries (with_page entries n page) }
 {}

@@ -1,14 +1,14 @@
 //! The journal's moves over a disk: a change into the journal, and from there home.
 ghost use Rattle.std.specs.Prelude.{◌≡◌, ◌+◌, ◌*◌, ◌<◌, ◌≤◌, [], List, ℕ, false, IsTrue, OnOk, length};
 ghost use Rattle.std.specs.Map.{keys_of};
-ghost use Rattle.spb_edge.specs.Fault.{IsCounted};
-ghost use Rattle.spb_edge.specs.Disk.{laid};
-ghost use Rattle.spb_edge.specs.Crash.{Only, Elapses, LeavesOnly};
+ghost use Rattle.spb_edge.specs.Fault.{CountsError};
+ghost use Rattle.spb_edge.specs.Disk.{overwritten_at};
+ghost use Rattle.spb_edge.specs.Crash.{IsDurable, Elapses, CrashesLeaveOnly};
 ghost use Rattle.redo_journal.specs.declared.layout.TheConstants.{PAGE_SIZE, LEAST_PAGES, CLOSED_GATE};
 ghost use Rattle.redo_journal.specs.Pages.{page, gate};
 ghost use Rattle.redo_journal.specs.Header.{AreHomes};
-ghost use Rattle.redo_journal.specs.Redo.{is_open, over, HasHome, is_among, DiffersWithin};
-ghost use Rattle.redo_journal.specs.Change.{Holds, ArePlaced, IsRedone, Commits, IsLeftBy};
+ghost use Rattle.redo_journal.specs.Redo.{has_open_gate, overlay, RecoversTo, is_listed, DiffersWithin};
+ghost use Rattle.redo_journal.specs.Change.{HoldsChange, AreInPlace, IsRedone, Commits, IsBeforeOrAfter};
 
 use crate::DiskFault;
 use crate::device::{sync_all, write_and_keep, write_piece};
@@ -21,16 +21,16 @@ pub(crate) fn commit_staged<D: Disk>(disk: &mut D, staged: &mut Staged) -> Resul
     requires some { 0 < length staged.old.pages }
     requires size { D.size_of disk.old ≡ PAGE_SIZE * staged.old.total }
     requires least { LEAST_PAGES ≤ staged.old.total }
-    ensures commits { IsTrue (D.told disk.old) → OnOk result (Commits staged.old.total staged.old.pages (D.image disk.old) (D.image disk.new)) }
-    ensures any_moment { IsTrue (D.told disk.old) → IsTrue (D.tells_crashes disk.old) → Only (D.image disk.old) (D.may_leave disk.old) → (marks : List ℕ) (home : ℕ → List ℕ)
-        → HasHome staged.old.total (D.image disk.old) marks home → is_open (D.image disk.old) ≡ false
-        → LeavesOnly D.moment D.left_since disk.old disk.new (IsLeftBy staged.old.total staged.old.pages marks home) }
-    ensures kept { IsTrue (D.told disk.old) → IsTrue (D.tells_crashes disk.old) → OnOk result (Only (D.image disk.new) (D.may_leave disk.new)) }
+    ensures commits { IsTrue (D.is_known disk.old) → OnOk result (Commits staged.old.total staged.old.pages (D.image disk.old) (D.image disk.new)) }
+    ensures any_moment { IsTrue (D.is_known disk.old) → IsTrue (D.knows_crashes disk.old) → IsDurable (D.image disk.old) (D.crash_states disk.old) → (marks : List ℕ) (home : ℕ → List ℕ)
+        → RecoversTo staged.old.total (D.image disk.old) marks home → has_open_gate (D.image disk.old) ≡ false
+        → CrashesLeaveOnly D.moment D.crash_states_since disk.old disk.new (IsBeforeOrAfter staged.old.total staged.old.pages marks home) }
+    ensures kept { IsTrue (D.is_known disk.old) → IsTrue (D.knows_crashes disk.old) → OnOk result (IsDurable (D.image disk.new) (D.crash_states disk.new)) }
     ensures pages { (staged.new.pages ≡ staged.old.pages) × (staged.new.total ≡ staged.old.total) }
-    ensures told { (D.told disk.new ≡ D.told disk.old) × (D.tells_crashes disk.new ≡ D.tells_crashes disk.old) }
+    ensures told { (D.is_known disk.new ≡ D.is_known disk.old) × (D.knows_crashes disk.new ≡ D.knows_crashes disk.old) }
     ensures same_size { D.size_of disk.new ≡ D.size_of disk.old }
-    ensures reads { IsTrue (D.told disk.old) → D.reads disk.new ≡ D.reads disk.old }
-    ensures fault { IsCounted result (D.faults disk.old) (D.faults disk.new) }
+    ensures reads { IsTrue (D.is_known disk.old) → D.reads disk.new ≡ D.reads disk.old }
+    ensures fault { CountsError result (D.faults disk.old) (D.faults disk.new) }
 {
     staged.seal();
     write_and_keep(disk, PAGE_SIZE as u64 * HEADER_PAGE as u64, staged.body())?;
@@ -41,16 +41,16 @@ pub(crate) fn commit_staged<D: Disk>(disk: &mut D, staged: &mut Staged) -> Resul
 fn write_home<D: Disk>(disk: &mut D, n: u32, page: &[u8]) -> Result<(), DiskFault>
     requires within { PAGE_SIZE * n + PAGE_SIZE ≤ D.size_of disk.old }
     requires page { length page.now ≡ PAGE_SIZE }
-    ensures image { IsTrue (D.told disk.old) → OnOk result (D.image disk.new ≡ laid (D.image disk.old) (PAGE_SIZE * n) page.now) }
+    ensures image { IsTrue (D.is_known disk.old) → OnOk result (D.image disk.new ≡ overwritten_at (D.image disk.old) (PAGE_SIZE * n) page.now) }
     // Whatever image a crash may leave: where it differed from another at most within some pages of which
     // this is one, it still does.
-    ensures crash { (total : ℕ) (numbers start : List ℕ) → length start ≡ PAGE_SIZE * total → n < total → IsTrue (is_among n numbers)
-        → ((c : List ℕ) → D.may_leave disk.old c → DiffersWithin total numbers start c) → (c : List ℕ) → D.may_leave disk.new c → DiffersWithin total numbers start c }
-    ensures time { Elapses (D.moment disk.old) (D.moment disk.new) (D.left_since disk.old) (D.left_since disk.new) (D.may_leave disk.new) }
-    ensures told { (D.told disk.new ≡ D.told disk.old) × (D.tells_crashes disk.new ≡ D.tells_crashes disk.old) }
+    ensures crash { (total : ℕ) (numbers start : List ℕ) → length start ≡ PAGE_SIZE * total → n < total → IsTrue (is_listed n numbers)
+        → ((c : List ℕ) → D.crash_states disk.old c → DiffersWithin total numbers start c) → (c : List ℕ) → D.crash_states disk.new c → DiffersWithin total numbers start c }
+    ensures time { Elapses (D.moment disk.old) (D.moment disk.new) (D.crash_states_since disk.old) (D.crash_states_since disk.new) (D.crash_states disk.new) }
+    ensures told { (D.is_known disk.new ≡ D.is_known disk.old) × (D.knows_crashes disk.new ≡ D.knows_crashes disk.old) }
     ensures same_size { D.size_of disk.new ≡ D.size_of disk.old }
-    ensures reads { IsTrue (D.told disk.old) → D.reads disk.new ≡ D.reads disk.old }
-    ensures fault { IsCounted result (D.faults disk.old) (D.faults disk.new) }
+    ensures reads { IsTrue (D.is_known disk.old) → D.reads disk.new ≡ D.reads disk.old }
+    ensures fault { CountsError result (D.faults disk.old) (D.faults disk.new) }
 {
     write_piece(disk, PAGE_SIZE as u64 * n as u64, page)
 }
@@ -59,17 +59,17 @@ fn write_home<D: Disk>(disk: &mut D, n: u32, page: &[u8]) -> Result<(), DiskFaul
 fn write_all_home<D: Disk>(disk: &mut D, staged: &Staged) -> Result<(), DiskFault>
     requires size { D.size_of disk.old ≡ PAGE_SIZE * staged.now.total }
     requires least { LEAST_PAGES ≤ staged.now.total }
-    ensures placed { IsTrue (D.told disk.old) → OnOk result (ArePlaced staged.now.pages (D.image disk.new)) }
-    ensures differs { IsTrue (D.told disk.old) → OnOk result (DiffersWithin staged.now.total (keys_of staged.now.pages) (D.image disk.old) (D.image disk.new)) }
-    ensures any_moment { IsTrue (D.told disk.old) → Only (D.image disk.old) (D.may_leave disk.old)
-        → LeavesOnly D.moment D.left_since disk.old disk.new (DiffersWithin staged.now.total (keys_of staged.now.pages) (D.image disk.old)) }
-    ensures crash { IsTrue (D.told disk.old) → Only (D.image disk.old) (D.may_leave disk.old)
-        → (c : List ℕ) → D.may_leave disk.new c → DiffersWithin staged.now.total (keys_of staged.now.pages) (D.image disk.old) c }
+    ensures placed { IsTrue (D.is_known disk.old) → OnOk result (AreInPlace staged.now.pages (D.image disk.new)) }
+    ensures differs { IsTrue (D.is_known disk.old) → OnOk result (DiffersWithin staged.now.total (keys_of staged.now.pages) (D.image disk.old) (D.image disk.new)) }
+    ensures any_moment { IsTrue (D.is_known disk.old) → IsDurable (D.image disk.old) (D.crash_states disk.old)
+        → CrashesLeaveOnly D.moment D.crash_states_since disk.old disk.new (DiffersWithin staged.now.total (keys_of staged.now.pages) (D.image disk.old)) }
+    ensures crash { IsTrue (D.is_known disk.old) → IsDurable (D.image disk.old) (D.crash_states disk.old)
+        → (c : List ℕ) → D.crash_states disk.new c → DiffersWithin staged.now.total (keys_of staged.now.pages) (D.image disk.old) c }
     ensures homes { AreHomes staged.now.total 0 (keys_of staged.now.pages) }
-    ensures told { (D.told disk.new ≡ D.told disk.old) × (D.tells_crashes disk.new ≡ D.tells_crashes disk.old) }
+    ensures told { (D.is_known disk.new ≡ D.is_known disk.old) × (D.knows_crashes disk.new ≡ D.knows_crashes disk.old) }
     ensures same_size { D.size_of disk.new ≡ D.size_of disk.old }
-    ensures reads { IsTrue (D.told disk.old) → D.reads disk.new ≡ D.reads disk.old }
-    ensures fault { IsCounted result (D.faults disk.old) (D.faults disk.new) }
+    ensures reads { IsTrue (D.is_known disk.old) → D.reads disk.new ≡ D.reads disk.old }
+    ensures fault { CountsError result (D.faults disk.old) (D.faults disk.new) }
 {
     for place in 0..staged.count() {
         let (n, page) = staged.entry(place);
@@ -82,18 +82,18 @@ fn write_all_home<D: Disk>(disk: &mut D, staged: &Staged) -> Result<(), DiskFaul
 pub(crate) fn settle_staged<D: Disk>(disk: &mut D, staged: &mut Staged) -> Result<(), DiskFault>
     requires size { D.size_of disk.old ≡ PAGE_SIZE * staged.old.total }
     requires least { LEAST_PAGES ≤ staged.old.total }
-    ensures settles { IsTrue (D.told disk.old) → Holds staged.old.pages (D.image disk.old) → OnOk result (IsRedone staged.old.total (D.image disk.old) (D.image disk.new)) }
-    ensures closed { IsTrue (D.told disk.old) → OnOk result (gate (D.image disk.new) ≡ CLOSED_GATE) }
-    ensures any_moment { IsTrue (D.told disk.old) → IsTrue (D.tells_crashes disk.old) → Only (D.image disk.old) (D.may_leave disk.old) → Holds staged.old.pages (D.image disk.old)
-        → (marks : List ℕ) (home : ℕ → List ℕ) → HasHome staged.old.total (D.image disk.old) marks home
-        → LeavesOnly D.moment D.left_since disk.old disk.new (λ c. HasHome staged.old.total c marks home) }
-    ensures kept { IsTrue (D.told disk.old) → IsTrue (D.tells_crashes disk.old) → OnOk result (Only (D.image disk.new) (D.may_leave disk.new)) }
+    ensures settles { IsTrue (D.is_known disk.old) → HoldsChange staged.old.pages (D.image disk.old) → OnOk result (IsRedone staged.old.total (D.image disk.old) (D.image disk.new)) }
+    ensures closed { IsTrue (D.is_known disk.old) → OnOk result (gate (D.image disk.new) ≡ CLOSED_GATE) }
+    ensures any_moment { IsTrue (D.is_known disk.old) → IsTrue (D.knows_crashes disk.old) → IsDurable (D.image disk.old) (D.crash_states disk.old) → HoldsChange staged.old.pages (D.image disk.old)
+        → (marks : List ℕ) (home : ℕ → List ℕ) → RecoversTo staged.old.total (D.image disk.old) marks home
+        → CrashesLeaveOnly D.moment D.crash_states_since disk.old disk.new (λ c. RecoversTo staged.old.total c marks home) }
+    ensures kept { IsTrue (D.is_known disk.old) → IsTrue (D.knows_crashes disk.old) → OnOk result (IsDurable (D.image disk.new) (D.crash_states disk.new)) }
     ensures cleared { OnOk result (staged.new.pages ≡ []) }
     ensures total { staged.new.total ≡ staged.old.total }
-    ensures told { (D.told disk.new ≡ D.told disk.old) × (D.tells_crashes disk.new ≡ D.tells_crashes disk.old) }
+    ensures told { (D.is_known disk.new ≡ D.is_known disk.old) × (D.knows_crashes disk.new ≡ D.knows_crashes disk.old) }
     ensures same_size { D.size_of disk.new ≡ D.size_of disk.old }
-    ensures reads { IsTrue (D.told disk.old) → D.reads disk.new ≡ D.reads disk.old }
-    ensures fault { IsCounted result (D.faults disk.old) (D.faults disk.new) }
+    ensures reads { IsTrue (D.is_known disk.old) → D.reads disk.new ≡ D.reads disk.old }
+    ensures fault { CountsError result (D.faults disk.old) (D.faults disk.new) }
 {
     write_all_home(disk, staged)?;
     sync_all(disk)?;

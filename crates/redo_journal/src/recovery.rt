@@ -1,11 +1,11 @@
 //! Reading what the journal holds, and finishing it.
 ghost use Rattle.std.specs.Prelude.{◌≡◌, ◌⊎◌, ◌+◌, ◌*◌, ◌<◌, ◌≤◌, [], List, ℕ, false, IsTrue, OnOk, IfOk, length};
-ghost use Rattle.spb_edge.specs.Fault.{IsCounted, counted};
-ghost use Rattle.spb_edge.specs.Crash.{Only, LeavesOnly};
+ghost use Rattle.spb_edge.specs.Fault.{CountsError, next_count};
+ghost use Rattle.spb_edge.specs.Crash.{IsDurable, CrashesLeaveOnly};
 ghost use Rattle.redo_journal.specs.declared.layout.TheConstants.{PAGE_SIZE, GATE_AT, LEAST_PAGES};
 ghost use Rattle.redo_journal.specs.Pages.{page};
-ghost use Rattle.redo_journal.specs.Redo.{is_open, HasHome};
-ghost use Rattle.redo_journal.specs.Change.{Finds, Recovers, OnBadHeader, IsCountedFault};
+ghost use Rattle.redo_journal.specs.Redo.{has_open_gate, RecoversTo};
+ghost use Rattle.redo_journal.specs.Change.{ReadsChange, Recovers, OnBadHeader, CountsRecoverFault};
 
 use crate::device::{read_piece, sync_all};
 use crate::header::read_header;
@@ -18,12 +18,12 @@ use spb_edge::Disk;
 /// Whether the gate is open. One device call.
 fn gate_is_open<D: Disk>(disk: &mut D) -> Result<bool, DiskFault>
     requires { GATE_AT + 1 ≤ D.size_of disk.old }
-    ensures gate { IsTrue (D.told disk.old) → IfOk result (λ opened. opened ≡ is_open (D.image disk.old)) }
+    ensures gate { IsTrue (D.is_known disk.old) → IfOk result (λ opened. opened ≡ has_open_gate (D.image disk.old)) }
     ensures quiet { D.quiet disk.old disk.new }
-    ensures image { IsTrue (D.told disk.old) → D.image disk.new ≡ D.image disk.old }
-    ensures told { (D.told disk.new ≡ D.told disk.old) × (D.tells_crashes disk.new ≡ D.tells_crashes disk.old) }
+    ensures image { IsTrue (D.is_known disk.old) → D.image disk.new ≡ D.image disk.old }
+    ensures told { (D.is_known disk.new ≡ D.is_known disk.old) × (D.knows_crashes disk.new ≡ D.knows_crashes disk.old) }
     ensures size { D.size_of disk.new ≡ D.size_of disk.old }
-    ensures fault { IsCounted result (D.faults disk.old) (D.faults disk.new) }
+    ensures fault { CountsError result (D.faults disk.old) (D.faults disk.new) }
 {
     let mut gate = [0];
     read_piece(disk, GATE_AT, &mut gate)?;
@@ -37,13 +37,13 @@ pub(crate) fn read_page<D: Disk>(
     into: &mut [u8; PAGE_SIZE],
 ) -> Result<(), DiskFault>
     requires { PAGE_SIZE * n + PAGE_SIZE ≤ D.size_of disk.old }
-    ensures data { IsTrue (D.told disk.old) → OnOk result (into.new ≡ page (D.image disk.old) n) }
+    ensures data { IsTrue (D.is_known disk.old) → OnOk result (into.new ≡ page (D.image disk.old) n) }
     ensures quiet { D.quiet disk.old disk.new }
-    ensures image { IsTrue (D.told disk.old) → D.image disk.new ≡ D.image disk.old }
-    ensures told { (D.told disk.new ≡ D.told disk.old) × (D.tells_crashes disk.new ≡ D.tells_crashes disk.old) }
+    ensures image { IsTrue (D.is_known disk.old) → D.image disk.new ≡ D.image disk.old }
+    ensures told { (D.is_known disk.new ≡ D.is_known disk.old) × (D.knows_crashes disk.new ≡ D.knows_crashes disk.old) }
     ensures size { D.size_of disk.new ≡ D.size_of disk.old }
-    ensures reads { IsTrue (D.told disk.old) → D.reads disk.new ≡ counted (D.reads disk.old) }
-    ensures fault { IsCounted result (D.faults disk.old) (D.faults disk.new) }
+    ensures reads { IsTrue (D.is_known disk.old) → D.reads disk.new ≡ next_count (D.reads disk.old) }
+    ensures fault { CountsError result (D.faults disk.old) (D.faults disk.new) }
 {
     read_piece(disk, PAGE_SIZE as u64 * n as u64, into)
 }
@@ -52,14 +52,14 @@ pub(crate) fn read_page<D: Disk>(
 fn find_change<D: Disk>(disk: &mut D, staged: &mut Staged) -> Result<bool, RecoverError>
     requires none { staged.old.pages ≡ [] }
     requires size { PAGE_SIZE * LEAST_PAGES ≤ D.size_of disk.old }
-    ensures finds { IsTrue (D.told disk.old) → Finds staged.old.total result (D.image disk.old) staged.new.pages }
+    ensures finds { IsTrue (D.is_known disk.old) → ReadsChange staged.old.total result (D.image disk.old) staged.new.pages }
     ensures none { IfOk result (λ found. found ≡ false → staged.new.pages ≡ []) }
     ensures total { staged.new.total ≡ staged.old.total }
     ensures quiet { D.quiet disk.old disk.new }
-    ensures image { IsTrue (D.told disk.old) → D.image disk.new ≡ D.image disk.old }
-    ensures told { (D.told disk.new ≡ D.told disk.old) × (D.tells_crashes disk.new ≡ D.tells_crashes disk.old) }
+    ensures image { IsTrue (D.is_known disk.old) → D.image disk.new ≡ D.image disk.old }
+    ensures told { (D.is_known disk.new ≡ D.is_known disk.old) × (D.knows_crashes disk.new ≡ D.knows_crashes disk.old) }
     ensures same_size { D.size_of disk.new ≡ D.size_of disk.old }
-    ensures fault { IsCountedFault result (D.faults disk.old) (D.faults disk.new) }
+    ensures fault { CountsRecoverFault result (D.faults disk.old) (D.faults disk.new) }
 {
     if !gate_is_open(disk)? {
         return Ok(false);
@@ -83,15 +83,15 @@ fn find_change<D: Disk>(disk: &mut D, staged: &mut Staged) -> Result<bool, Recov
 fn find_kept_change<D: Disk>(disk: &mut D, staged: &mut Staged) -> Result<bool, RecoverError>
     requires none { staged.old.pages ≡ [] }
     requires size { PAGE_SIZE * LEAST_PAGES ≤ D.size_of disk.old }
-    ensures finds { IsTrue (D.told disk.old) → Finds staged.old.total result (D.image disk.old) staged.new.pages }
+    ensures finds { IsTrue (D.is_known disk.old) → ReadsChange staged.old.total result (D.image disk.old) staged.new.pages }
     ensures none { IfOk result (λ found. found ≡ false → staged.new.pages ≡ []) }
     ensures total { staged.new.total ≡ staged.old.total }
-    ensures any_moment { LeavesOnly D.moment D.left_since disk.old disk.new (D.may_leave disk.old) }
-    ensures kept { IsTrue (D.told disk.old) → IsTrue (D.tells_crashes disk.old) → OnOk result (Only (D.image disk.new) (D.may_leave disk.new)) }
-    ensures image { IsTrue (D.told disk.old) → D.image disk.new ≡ D.image disk.old }
-    ensures told { (D.told disk.new ≡ D.told disk.old) × (D.tells_crashes disk.new ≡ D.tells_crashes disk.old) }
+    ensures any_moment { CrashesLeaveOnly D.moment D.crash_states_since disk.old disk.new (D.crash_states disk.old) }
+    ensures kept { IsTrue (D.is_known disk.old) → IsTrue (D.knows_crashes disk.old) → OnOk result (IsDurable (D.image disk.new) (D.crash_states disk.new)) }
+    ensures image { IsTrue (D.is_known disk.old) → D.image disk.new ≡ D.image disk.old }
+    ensures told { (D.is_known disk.new ≡ D.is_known disk.old) × (D.knows_crashes disk.new ≡ D.knows_crashes disk.old) }
     ensures same_size { D.size_of disk.new ≡ D.size_of disk.old }
-    ensures fault { IsCountedFault result (D.faults disk.old) (D.faults disk.new) }
+    ensures fault { CountsRecoverFault result (D.faults disk.old) (D.faults disk.new) }
 {
     sync_all(disk)?;
     find_change(disk, staged)
@@ -102,17 +102,17 @@ pub(crate) fn recover_staged<D: Disk>(disk: &mut D, staged: &mut Staged) -> Resu
     requires none { staged.old.pages ≡ [] }
     requires size { D.size_of disk.old ≡ PAGE_SIZE * staged.old.total }
     requires least { LEAST_PAGES ≤ staged.old.total }
-    ensures recovers { IsTrue (D.told disk.old) → Recovers staged.old.total result (D.image disk.old) (D.image disk.new) }
-    ensures any_start { IsTrue (D.told disk.old) → IsTrue (D.tells_crashes disk.old)
-        → (marks : List ℕ) (home : ℕ → List ℕ) → HasHome staged.old.total (D.image disk.old) marks home
-        → LeavesOnly D.moment D.left_since disk.old disk.new (λ c. D.may_leave disk.old c ⊎ HasHome staged.old.total c marks home) }
-    ensures unwritten { OnBadHeader result (LeavesOnly D.moment D.left_since disk.old disk.new (D.may_leave disk.old)) }
-    ensures kept { IsTrue (D.told disk.old) → IsTrue (D.tells_crashes disk.old) → OnOk result (Only (D.image disk.new) (D.may_leave disk.new)) }
+    ensures recovers { IsTrue (D.is_known disk.old) → Recovers staged.old.total result (D.image disk.old) (D.image disk.new) }
+    ensures any_start { IsTrue (D.is_known disk.old) → IsTrue (D.knows_crashes disk.old)
+        → (marks : List ℕ) (home : ℕ → List ℕ) → RecoversTo staged.old.total (D.image disk.old) marks home
+        → CrashesLeaveOnly D.moment D.crash_states_since disk.old disk.new (λ c. D.crash_states disk.old c ⊎ RecoversTo staged.old.total c marks home) }
+    ensures unwritten { OnBadHeader result (CrashesLeaveOnly D.moment D.crash_states_since disk.old disk.new (D.crash_states disk.old)) }
+    ensures kept { IsTrue (D.is_known disk.old) → IsTrue (D.knows_crashes disk.old) → OnOk result (IsDurable (D.image disk.new) (D.crash_states disk.new)) }
     ensures cleared { OnOk result (staged.new.pages ≡ []) }
     ensures total { staged.new.total ≡ staged.old.total }
-    ensures told { (D.told disk.new ≡ D.told disk.old) × (D.tells_crashes disk.new ≡ D.tells_crashes disk.old) }
+    ensures told { (D.is_known disk.new ≡ D.is_known disk.old) × (D.knows_crashes disk.new ≡ D.knows_crashes disk.old) }
     ensures same_size { D.size_of disk.new ≡ D.size_of disk.old }
-    ensures fault { IsCountedFault result (D.faults disk.old) (D.faults disk.new) }
+    ensures fault { CountsRecoverFault result (D.faults disk.old) (D.faults disk.new) }
 {
     if find_kept_change(disk, staged)? {
         settle_staged(disk, staged)?;

@@ -3,10 +3,10 @@ ghost use Rattle.std.specs.Prelude.{◌≡◌, ◌+◌, ◌*◌, ◌<◌, ◌≤
 ghost use Rattle.std.specs.Map.{keys_of, lookup};
 ghost use Rattle.redo_journal.specs.declared.layout.TheConstants.{PAGE_SIZE, CHANGE_LIMIT, FIRST_IMAGE, LEAST_PAGES};
 ghost use Rattle.redo_journal.specs.Pages.{IsHome};
-ghost use Rattle.spb_edge.specs.Fault.{IsCounted};
+ghost use Rattle.spb_edge.specs.Fault.{CountsError};
 ghost use Rattle.redo_journal.specs.Header.{AreHomes, header_page};
-ghost use Rattle.redo_journal.specs.Redo.{images_from};
-ghost use Rattle.redo_journal.specs.Change.{StagedPages, IsSound, Stages, IsRising, IsAt, IsBetween, joined_images};
+ghost use Rattle.redo_journal.specs.Redo.{entries_from};
+ghost use Rattle.redo_journal.specs.Change.{StagedPages, IsChange, Stages, IsNonDecreasing, IsPlaceOf, IsBetween, joined_images};
 
 use crate::device::read_piece;
 use crate::header::{Numbers, header_of};
@@ -29,14 +29,14 @@ pub(crate) struct Staged {
 impl Model for Staged {
     ghost use Rattle.std.specs.Prelude.{take, drop, vec_capacity};
     ghost use Rattle.redo_journal.specs.declared.layout.TheConstants.{PAGE_SIZE};
-    ghost use Rattle.redo_journal.specs.Change.{StagedPages, IsStaged, paired};
+    ghost use Rattle.redo_journal.specs.Change.{StagedPages, IsStaged, page_entries};
 
     ghost Value = { StagedPages };
 
     ghost view = { λ s. record {
       total = s.total;
       header = take PAGE_SIZE s.body.items;
-      pages = paired PAGE_SIZE s.numbers.items (drop PAGE_SIZE s.body.items);
+      pages = page_entries PAGE_SIZE s.numbers.items (drop PAGE_SIZE s.body.items);
     } };
 
     ghost invariant = { λ s. IsStaged s.total s.numbers.items s.body.items (vec_capacity s.body) };
@@ -66,7 +66,7 @@ impl Staged {
     /// How many pages are staged.
     pub(crate) fn count(&self) -> usize
         ensures count { result ≡ length self.now.pages }
-        ensures sound { IsSound self.now }
+        ensures sound { IsChange self.now }
     {
         self.numbers.len()
     }
@@ -110,13 +110,13 @@ impl Staged {
     pub(crate) fn load<D: Disk>(&mut self, disk: &mut D, numbers: Numbers) -> Result<(), DiskFault>
         requires homes { AreHomes self.old.total 0 numbers.items }
         requires size { PAGE_SIZE * LEAST_PAGES ≤ D.size_of disk.old }
-        ensures images { IsTrue (D.told disk.old) → OnOk result (self.new.pages ≡ images_from (D.image disk.old) FIRST_IMAGE numbers.items) }
+        ensures images { IsTrue (D.is_known disk.old) → OnOk result (self.new.pages ≡ entries_from (D.image disk.old) FIRST_IMAGE numbers.items) }
         ensures total { self.new.total ≡ self.old.total }
         ensures quiet { D.quiet disk.old disk.new }
-        ensures image { IsTrue (D.told disk.old) → D.image disk.new ≡ D.image disk.old }
-        ensures told { (D.told disk.new ≡ D.told disk.old) × (D.tells_crashes disk.new ≡ D.tells_crashes disk.old) }
+        ensures image { IsTrue (D.is_known disk.old) → D.image disk.new ≡ D.image disk.old }
+        ensures told { (D.is_known disk.new ≡ D.is_known disk.old) × (D.knows_crashes disk.new ≡ D.knows_crashes disk.old) }
         ensures size { D.size_of disk.new ≡ D.size_of disk.old }
-        ensures fault { IsCounted result (D.faults disk.old) (D.faults disk.new) }
+        ensures fault { CountsError result (D.faults disk.old) (D.faults disk.new) }
     {
         self.numbers = numbers;
         read_images(disk, &mut self.body, self.numbers.len())
@@ -145,7 +145,7 @@ impl Staged {
     pub(crate) fn body(&self) -> &[u8]
         ensures bytes { result.now ≡ self.now.header ++ joined_images self.now.pages }
         ensures long { length result.now ≡ PAGE_SIZE * (1 + length self.now.pages) }
-        ensures sound { IsSound self.now }
+        ensures sound { IsChange self.now }
     {
         &self.body
     }
@@ -170,14 +170,14 @@ fn read_images<D: Disk>(disk: &mut D, body: &mut Vec<u8>, count: usize) -> Resul
     requires header { PAGE_SIZE ≤ vec_len body.old }
     requires room { PAGE_SIZE * (1 + CHANGE_LIMIT) ≤ vec_capacity body.old }
     requires size { PAGE_SIZE * LEAST_PAGES ≤ D.size_of disk.old }
-    ensures images { IsTrue (D.told disk.old) → OnOk result (drop PAGE_SIZE body.new.items ≡ take (PAGE_SIZE * count) (drop (PAGE_SIZE * FIRST_IMAGE) (D.image disk.old))) }
+    ensures images { IsTrue (D.is_known disk.old) → OnOk result (drop PAGE_SIZE body.new.items ≡ take (PAGE_SIZE * count) (drop (PAGE_SIZE * FIRST_IMAGE) (D.image disk.old))) }
     ensures len { vec_len body.new ≡ PAGE_SIZE * (1 + count) }
     ensures capacity { vec_capacity body.old ≤ vec_capacity body.new }
     ensures quiet { D.quiet disk.old disk.new }
-    ensures image { IsTrue (D.told disk.old) → D.image disk.new ≡ D.image disk.old }
-    ensures told { (D.told disk.new ≡ D.told disk.old) × (D.tells_crashes disk.new ≡ D.tells_crashes disk.old) }
+    ensures image { IsTrue (D.is_known disk.old) → D.image disk.new ≡ D.image disk.old }
+    ensures told { (D.is_known disk.new ≡ D.is_known disk.old) × (D.knows_crashes disk.new ≡ D.knows_crashes disk.old) }
     ensures size { D.size_of disk.new ≡ D.size_of disk.old }
-    ensures fault { IsCounted result (D.faults disk.old) (D.faults disk.new) }
+    ensures fault { CountsError result (D.faults disk.old) (D.faults disk.new) }
 {
     let Ok(()) = body.resize(PAGE_SIZE * (1 + count), 0) else {
         unreachable!()
@@ -191,8 +191,8 @@ fn read_images<D: Disk>(disk: &mut D, body: &mut Vec<u8>, count: usize) -> Resul
 
 /// Where a number stands among rising ones, or where it belongs.
 fn place_of(numbers: &[u32], n: u32) -> Result<usize, usize>
-    requires { IsRising numbers.now }
-    ensures { MatchResult result (IsAt numbers.now n) (IsBetween numbers.now n) }
+    requires { IsNonDecreasing numbers.now }
+    ensures { MatchResult result (IsPlaceOf numbers.now n) (IsBetween numbers.now n) }
 {
     numbers.binary_search(&n)
 }

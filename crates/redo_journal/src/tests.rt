@@ -1,8 +1,8 @@
 //! A change of two pages, stopped and failed at each device call, and recovered.
 ghost use Rattle.std.specs.Prelude.{◌≡◌, ◌*◌, [], ◌∷◌, List, ℕ, false, IsTrue, IfOk, length};
-ghost use Rattle.spb_edge.specs.Crash.{Only, LeavesOnly};
-ghost use Rattle.redo_journal.specs.Redo.{is_open, HasHome};
-ghost use Rattle.redo_journal.specs.Change.{IsLeftBy};
+ghost use Rattle.spb_edge.specs.Crash.{IsDurable, CrashesLeaveOnly};
+ghost use Rattle.redo_journal.specs.Redo.{has_open_gate, RecoversTo};
+ghost use Rattle.redo_journal.specs.Change.{IsBeforeOrAfter};
 
 use super::*;
 use spb_edge::{Bytes, Choice, Disk, DiskCall, MemDisk, Memory, SureDisk};
@@ -122,9 +122,9 @@ fn home_whatever_the_stop(alloc: Global, image: &[u8]) -> Result<Home, Fail> {
 /// the pages without this one or with it.
 fn commit_page<D: Disk>(alloc: Global, disk: &mut D, page: &[u8; 512]) -> Result<(), Memory>
     requires size { D.size_of disk.old ≡ 512 * 90 }
-    ensures any_moment { IsTrue (D.told disk.old) → IsTrue (D.tells_crashes disk.old) → Only (D.image disk.old) (D.may_leave disk.old) → (marks : List ℕ) (home : ℕ → List ℕ)
-        → HasHome 90 (D.image disk.old) marks home → is_open (D.image disk.old) ≡ false
-        → LeavesOnly D.moment D.left_since disk.old disk.new (IsLeftBy 90 ((86, page.now) ∷ []) marks home) }
+    ensures any_moment { IsTrue (D.is_known disk.old) → IsTrue (D.knows_crashes disk.old) → IsDurable (D.image disk.old) (D.crash_states disk.old) → (marks : List ℕ) (home : ℕ → List ℕ)
+        → RecoversTo 90 (D.image disk.old) marks home → has_open_gate (D.image disk.old) ≡ false
+        → CrashesLeaveOnly D.moment D.crash_states_since disk.old disk.new (IsBeforeOrAfter 90 ((86, page.now) ∷ []) marks home) }
 {
     let mut journal = match Journal::new_or_back(alloc, disk, 90) {
         Ok(journal) => journal,
@@ -152,8 +152,8 @@ fn commit_and_crash(
     choice: Choice,
 ) -> Result<Bytes, Memory>
     requires size { length image.now ≡ 512 * 90 }
-    ensures either { (marks : List ℕ) (home : ℕ → List ℕ) → HasHome 90 image.now marks home → is_open image.now ≡ false
-        → IfOk result (λ bytes. IsLeftBy 90 ((86, page.now) ∷ []) marks home bytes) }
+    ensures either { (marks : List ℕ) (home : ℕ → List ℕ) → RecoversTo 90 image.now marks home → has_open_gate image.now ≡ false
+        → IfOk result (λ bytes. IsBeforeOrAfter 90 ((86, page.now) ∷ []) marks home bytes) }
 {
     let mut disk = MemDisk::new(alloc, image, failing, None, 16, 8192)?;
     commit_page(alloc, &mut disk, page)?;

@@ -10,10 +10,10 @@ use Rattle.std.proofs.lemmas.List.{length-map, map-append, get_or-map, get_or_de
 use Rattle.std.proofs.Math.ListN.{get_or-append}
 use Rattle.std.proofs.Math.Seq.{get_or-append_seam}
 use Rattle.pivot_map.specs.declared.row.Row.{Row}
-use Rattle.row_table.specs.Tables.{has_id, row_with, without, ids_of, HasDistinctIds}
+use Rattle.row_table.specs.Tables.{has_id, row_with, rows_without, ids_of, HasDistinctIds}
 use Rattle.row_table.specs.Places.{IsIndexed}
 use Rattle.row_table.specs.Finding.{find-at, find-none}
-use Rattle.row_table.specs.TableLaws.{not_equal, equal, none_is_row, without-permutation, without-cons, without_absent}
+use Rattle.row_table.specs.TableLaws.{not_equal, equal, none_is_row, rows_without-permutation, rows_without-cons, without_absent}
 use Rattle.std.proofs.lemmas.List.Sorted.{IsPermutation-swap_remove, IsPermutation-refl}
 
 -- ---- what an index tells of rows
@@ -297,11 +297,11 @@ moves_of (r ∷ rs) new place below count moved others = record {
     new_count = length-map new (λ (row : Row). row.id)
 
 -- the rows without an id are a permutation of what `swap_remove` leaves
-remaining : (rows : List Row) (place : ℕ) (row : Row) (id : ℕ) → place < length rows → row ≡ get_or rows place row → row.id ≡ id → row_with id (swap_remove rows place row) ≡ None → IsPermutation (without id rows) (swap_remove rows place row)
+remaining : (rows : List Row) (place : ℕ) (row : Row) (id : ℕ) → place < length rows → row ≡ get_or rows place row → row.id ≡ id → row_with id (swap_remove rows place row) ≡ None → IsPermutation (rows_without id rows) (swap_remove rows place row)
 remaining rows place row id below at mine none =
     let new = swap_remove rows place row in
-    let all = without-permutation rows (row ∷ new) id (IsPermutation-swap_remove rows place row below at) in
-    subst (IsPermutation (without id rows)) (without-cons row new id true (equal row.id id mine) ∙ without_absent new id none) all
+    let all = rows_without-permutation rows (row ∷ new) id (IsPermutation-swap_remove rows place row below at) in
+    subst (IsPermutation (rows_without id rows)) (rows_without-cons row new id true (equal row.id id mine) ∙ without_absent new id none) all
 
 -- a place that isn't that of the last row has one behind it
 pub more_after : (place n m : ℕ) → place < n → m + 1 ≡ n → place ≢ m → place + 1 < n
@@ -336,17 +336,17 @@ module _ {rows new : List Row} {place : ℕ} {row : Row} {id : ℕ} {f g : ℕ �
   moved_ids = subst (λ xs. Moves (ids_of rows) (ids_of xs) place) (sym goes.items)
       (moves_of rows (swap_remove rows place row) place within (count_after rows place row within) (moved_after rows place row within) (others_after rows place row within))
 
-  left : row_with id new ≡ None → IsPermutation (without id rows) new
+  left : row_with id new ≡ None → IsPermutation (rows_without id rows) new
   left none =
       let mine = ap (λ (r : Row). r.id) goes.at ∙ has_it rows f goes.indexed id place row goes.there in
-      subst (IsPermutation (without id rows)) (sym goes.items)
+      subst (IsPermutation (rows_without id rows)) (sym goes.items)
       (remaining rows place row id within goes.at mine (subst (λ xs. row_with id xs ≡ None) goes.items none))
 
   -- the last row went
   pub last_gone : place + 1 ≡ length rows → IsIndexed g (ids_of new)
   last_gone last = indexed-last (ids_of rows) (ids_of new) f g id place goes.indexed goes.there moved_ids goes.cut (omega (arith, last, ids_count))
 
-  pub last_remaining : place + 1 ≡ length rows → IsPermutation (without id rows) new
+  pub last_remaining : place + 1 ≡ length rows → IsPermutation (rows_without id rows) new
   last_remaining last = left (missing new g (last_gone last) id goes.cut.here)
 
   -- another row went: `moved` is the one at its place, and `h` the index with its new place
@@ -367,11 +367,11 @@ module _ {rows new : List Row} {place : ℕ} {row : Row} {id : ℕ} {f g : ℕ �
       pub another_gone : IsIndexed h (ids_of new)
       another_gone = indexed-moved (ids_of rows) (ids_of new) f g id place goes.indexed goes.there moved_ids goes.cut h more_ids put_there
 
-      pub another_remaining : IsPermutation (without id rows) new
+      pub another_remaining : IsPermutation (rows_without id rows) new
       another_remaining = left (missing new h another_gone id (id_gone (ids_of rows) (ids_of new) f g id place goes.indexed goes.there moved_ids goes.cut h more_ids put_there))
 
 -- where no row has the id
-pub all_remaining : (rows : List Row) (id : ℕ) → row_with id rows ≡ None → IsPermutation (without id rows) rows
+pub all_remaining : (rows : List Row) (id : ℕ) → row_with id rows ≡ None → IsPermutation (rows_without id rows) rows
 all_remaining rows id none = subst (λ xs. IsPermutation xs rows) (sym (without_absent rows id none)) (IsPermutation-refl rows)
 
 -- what `get` of a slice lends at the id's place

@@ -11,14 +11,14 @@ use Rattle.std.proofs.lemmas.List.Sorted.{IsPermutation-sym, All-permutation, le
 use Rattle.std.proofs.lemmas.List.Sums.{sum_by-cons, sum_by-set}
 use Rattle.spb_defs.specs.Pivots.{cells_of}
 use Rattle.spb_defs.specs.Scans.{Row as Entry}
-use Rattle.spb_defs.specs.State.{key_cmp, with_object, without_object, count_of, rows_of}
+use Rattle.spb_defs.specs.State.{key_cmp, with_object, without_object, member_count, entries_in}
 use Rattle.pivot_map.specs.declared.row.Row.{Row}
 use Rattle.pivot_map.specs.Rows.{entry_of, entries_of, AreRows}
-use Rattle.row_table.specs.Tables.{has_id, row_with, without, HasDistinctIds}
-use Rattle.row_table.specs.TableLaws.{HasDistinctIds-push, HasDistinctIds-without, HasDistinctIds-permutation, without-length}
-use Rattle.scan_laws.specs.Tables.{HasIds, members_of, table_at, object_in, others_in}
-use Rattle.scan_laws.specs.Entries.{object_in-map, others_in-moved, HasIds-map}
-use Rattle.scan_laws.specs.Members.{object_at-members_of, members_of-added, members_of-removed, count_of-members_of, length-members_of, rows_of-members_of}
+use Rattle.row_table.specs.Tables.{has_id, row_with, rows_without, HasDistinctIds}
+use Rattle.row_table.specs.TableLaws.{HasDistinctIds-push, HasDistinctIds-rows_without, HasDistinctIds-permutation, rows_without-length}
+use Rattle.scan_laws.specs.Tables.{HasDistinctEntryIds, members_of, table_at, object_with_id, entries_without}
+use Rattle.scan_laws.specs.Entries.{object_with_id-map, entries_without-moved, HasDistinctEntryIds-map}
+use Rattle.scan_laws.specs.Members.{object_at-members_of, members_of-added, members_of-removed, member_count-members_of, length-members_of, entries_in-members_of}
 
 -- the rows of a collection
 abbrev pub rows_at : List (List Row) → ℕ → List Row
@@ -29,18 +29,18 @@ entries_at [] c = refl
 entries_at (rows ∷ tables) zero = refl
 entries_at (rows ∷ tables) (suc c) = entries_at tables c
 
-have_ids : (tables : List (List Row)) → All HasDistinctIds tables → AllByRecursion HasIds (map entries_of tables)
+have_ids : (tables : List (List Row)) → All HasDistinctIds tables → AllByRecursion HasDistinctEntryIds (map entries_of tables)
 have_ids [] h = tt
-have_ids (rows ∷ tables) h = (HasIds-map entry_of rows (h 0 [] (omega arith)), have_ids tables (λ k d below. h (suc k) d (omega (arith, below))))
+have_ids (rows ∷ tables) h = (HasDistinctEntryIds-map entry_of rows (h 0 [] (omega arith)), have_ids tables (λ k d below. h (suc k) d (omega (arith, below))))
 
 -- ---- what the members say of the rows
 
 -- the object under a key is that of the row with the id
 pub object_under : (tables : List (List Row)) (c id : ℕ) → lookup (is_at (key_cmp (c, id))) (members_of (map entries_of tables)) ≡ option_map (λ (row : Row). row.object) (row_with id (rows_at tables c))
-object_under tables c id = object_at-members_of (map entries_of tables) c id ∙ ap (λ rows. object_in rows id) (entries_at tables c) ∙ object_in-map entry_of (rows_at tables c) id
+object_under tables c id = object_at-members_of (map entries_of tables) c id ∙ ap (λ rows. object_with_id rows id) (entries_at tables c) ∙ object_with_id-map entry_of (rows_at tables c) id
 
-pub count_under : (tables : List (List Row)) (c : ℕ) → count_of (members_of (map entries_of tables)) c ≡ length (rows_at tables c)
-count_under tables c = count_of-members_of (map entries_of tables) c ∙ ap length (entries_at tables c) ∙ length-map (rows_at tables c) entry_of
+pub count_under : (tables : List (List Row)) (c : ℕ) → member_count (members_of (map entries_of tables)) c ≡ length (rows_at tables c)
+count_under tables c = member_count-members_of (map entries_of tables) c ∙ ap length (entries_at tables c) ∙ length-map (rows_at tables c) entry_of
 
 sizes : (tables : List (List Row)) → sum_by length (map entries_of tables) ≡ sum_by length tables
 sizes [] = refl
@@ -54,8 +54,8 @@ pub length_under : (tables : List (List Row)) → length (members_of (map entrie
 length_under tables = length-members_of (map entries_of tables) ∙ sizes tables
 
 -- the rows of a collection, in another order
-pub rows_under : (tables : List (List Row)) (c : ℕ) → IsPermutation (rows_of (members_of (map entries_of tables)) c) (entries_of (rows_at tables c))
-rows_under tables c = subst (λ (rows : List Entry). IsPermutation (rows_of (members_of (map entries_of tables)) c) rows) (entries_at tables c) (rows_of-members_of (map entries_of tables) c)
+pub rows_under : (tables : List (List Row)) (c : ℕ) → IsPermutation (entries_in (members_of (map entries_of tables)) c) (entries_of (rows_at tables c))
+rows_under tables c = subst (λ (rows : List Entry). IsPermutation (entries_in (members_of (map entries_of tables)) c) rows) (entries_at tables c) (entries_in-members_of (map entries_of tables) c)
 
 -- a table has no more rows than all tables together
 pub length-part : (tables : List (List Row)) (c : ℕ) → length (rows_at tables c) ≤ sum_by length tables
@@ -73,8 +73,8 @@ module _ (tables : List (List Row)) (c : ℕ) (row : Row) (rows : List Row) (bel
       let es = map entries_of tables in
       let grown : entries_of rows ≡ table_at es c ++ entry_of row ∷ [] =
       ap entries_of is ∙ map-append entry_of (rows_at tables c) (row ∷ []) ∙ ap (λ es. es ++ entry_of row ∷ []) (sym (entries_at tables c)) in
-      let absent : object_in (table_at es c) row.id ≡ None =
-      ap (λ rows. object_in rows row.id) (entries_at tables c) ∙ object_in-map entry_of (rows_at tables c) row.id ∙ ap (option_map (λ (row : Row). row.object)) none in
+      let absent : object_with_id (table_at es c) row.id ≡ None =
+      ap (λ rows. object_with_id rows row.id) (entries_at tables c) ∙ object_with_id-map entry_of (rows_at tables c) row.id ∙ ap (option_map (λ (row : Row). row.object)) none in
       ap members_of (map-set entries_of tables c rows ∙ ap (slice_set es c) grown)
       ∙ members_of-added es c row.id row.object (have_ids tables distinct) (let many = length-map tables entries_of in omega (arith, many, below)) absent
 
@@ -95,27 +95,27 @@ AreRows-push admitted dist pivots rows row are room none valid cells = record {
 -- ---- a row less
 
 -- a table without the row of an id
-module _ (tables : List (List Row)) (c id : ℕ) (left : List Row) (below : c < length tables) (moved : IsPermutation (without id (rows_at tables c)) left) where
-  pub members_of-without : All HasDistinctIds tables → members_of (map entries_of (slice_set tables c left)) ≡ without_object (members_of (map entries_of tables)) c id
-  members_of-without distinct =
+module _ (tables : List (List Row)) (c id : ℕ) (left : List Row) (below : c < length tables) (moved : IsPermutation (rows_without id (rows_at tables c)) left) where
+  pub members_of-rows_without : All HasDistinctIds tables → members_of (map entries_of (slice_set tables c left)) ≡ without_object (members_of (map entries_of tables)) c id
+  members_of-rows_without distinct =
       let es = map entries_of tables in
       ap members_of (map-set entries_of tables c left)
       ∙ members_of-removed es c id (entries_of left) (have_ids tables distinct) (let many = length-map tables entries_of in omega (arith, many, below))
-      (subst (λ (rows : List Entry). IsPermutation (others_in rows id) (entries_of left)) (sym (entries_at tables c)) (others_in-moved entry_of (rows_at tables c) left id moved))
+      (subst (λ (rows : List Entry). IsPermutation (entries_without rows id) (entries_of left)) (sym (entries_at tables c)) (entries_without-moved entry_of (rows_at tables c) left id moved))
 
-  pub sum-without : sum_by length (slice_set tables c left) ≤ sum_by length tables
-  sum-without =
+  pub sum-rows_without : sum_by length (slice_set tables c left) ≤ sum_by length tables
+  sum-rows_without =
       let all = sum_by-set length tables c left [] below in
-      let many = length_permutation (without id (rows_at tables c)) left moved in
-      let less = without-length (rows_at tables c) id in omega (arith, all, many, less)
+      let many = length_permutation (rows_without id (rows_at tables c)) left moved in
+      let less = rows_without-length (rows_at tables c) id in omega (arith, all, many, less)
 
-pub AreRows-without : (admitted : List ℕ → Type 0) (dist : List ℕ → List ℕ → ℕ) (pivots : List (List ℕ)) (rows left : List Row) (id : ℕ) → IsPermutation (without id rows) left → AreRows admitted dist pivots rows → AreRows admitted dist pivots left
-AreRows-without admitted dist pivots rows left id moved are =
+pub AreRows-rows_without : (admitted : List ℕ → Type 0) (dist : List ℕ → List ℕ → ℕ) (pivots : List (List ℕ)) (rows left : List Row) (id : ℕ) → IsPermutation (rows_without id rows) left → AreRows admitted dist pivots rows → AreRows admitted dist pivots left
+AreRows-rows_without admitted dist pivots rows left id moved are =
     let others = λ (row : Row). not (has_id id row) in
     record {
-      few = let many = length_permutation (without id rows) left moved in let less = without-length rows id in let few = are.few in omega (arith, many, less, few);
+      few = let many = length_permutation (rows_without id rows) left moved in let less = rows_without-length rows id in let few = are.few in omega (arith, many, less, few);
       objects = All-permutation (λ (row : Row). admitted row.object) _ left moved (All-filter others (λ (row : Row). admitted row.object) rows are.objects);
       vects = All-permutation (λ (row : Row). row.vect ≡ cells_of dist pivots row.object) _ left moved
           (All-filter others (λ (row : Row). row.vect ≡ cells_of dist pivots row.object) rows are.vects);
-      ids = HasDistinctIds-permutation (without id rows) left (HasDistinctIds-without rows id are.ids) moved;
+      ids = HasDistinctIds-permutation (rows_without id rows) left (HasDistinctIds-rows_without rows id are.ids) moved;
     }

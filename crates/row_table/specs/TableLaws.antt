@@ -10,7 +10,7 @@ use Rattle.std.proofs.lemmas.List.Sorted.{IsPermutation-sym, IsPermutation-swap,
 use Rattle.std.proofs.lemmas.List.Edits.{Swapped, swapped_from_swap}
 use Rattle.std.proofs.lemmas.Bool.{cases_eq, cases_order}
 use Rattle.pivot_map.specs.declared.row.Row.{Row}
-use Rattle.row_table.specs.Tables.{has_id, row_with, without, HasDistinctIds}
+use Rattle.row_table.specs.Tables.{has_id, row_with, rows_without, HasDistinctIds}
 use Rattle.row_table.specs.Finding.{find-at, find-none}
 use Rattle.answer_lists.specs.Permutations.{permutation-filter}
 
@@ -125,78 +125,78 @@ row_with-push rows row id none = find-append (has_id id) rows (row ∷ []) ∙ f
 -- ---- the rows without an id
 
 -- the rows without an id, by whether the first has it
-pub without-cons : (row : Row) (rows : List Row) (id : ℕ) (b : Bool) → has_id id row ≡ b → without id (row ∷ rows) ≡ cond b (without id rows) (row ∷ without id rows)
-without-cons row rows id b is = ap (λ b. cond (not b) (row ∷ without id rows) (without id rows)) is ∙ turned b
+pub rows_without-cons : (row : Row) (rows : List Row) (id : ℕ) (b : Bool) → has_id id row ≡ b → rows_without id (row ∷ rows) ≡ cond b (rows_without id rows) (row ∷ rows_without id rows)
+rows_without-cons row rows id b is = ap (λ b. cond (not b) (row ∷ rows_without id rows) (rows_without id rows)) is ∙ turned b
   where
-    turned : (b : Bool) → cond (not b) (row ∷ without id rows) (without id rows) ≡ cond b (without id rows) (row ∷ without id rows)
+    turned : (b : Bool) → cond (not b) (row ∷ rows_without id rows) (rows_without id rows) ≡ cond b (rows_without id rows) (row ∷ rows_without id rows)
     turned true = refl
     turned false = refl
 
-pub without-permutation : (rows others : List Row) (id : ℕ) → IsPermutation rows others → IsPermutation (without id rows) (without id others)
-without-permutation rows others id same = permutation-filter (λ row. not (has_id id row)) rows others same
+pub rows_without-permutation : (rows others : List Row) (id : ℕ) → IsPermutation rows others → IsPermutation (rows_without id rows) (rows_without id others)
+rows_without-permutation rows others id same = permutation-filter (λ row. not (has_id id row)) rows others same
 
-pub HasDistinctIds-without : (rows : List Row) (id : ℕ) → HasDistinctIds rows → HasDistinctIds (without id rows)
-HasDistinctIds-without rows id distinct = AllPairs-filter (λ (a b : Row). a.id ≢ b.id) (λ row. not (has_id id row)) rows distinct
+pub HasDistinctIds-rows_without : (rows : List Row) (id : ℕ) → HasDistinctIds rows → HasDistinctIds (rows_without id rows)
+HasDistinctIds-rows_without rows id distinct = AllPairs-filter (λ (a b : Row). a.id ≢ b.id) (λ row. not (has_id id row)) rows distinct
 
 -- where no row has the id, these are all
-pub without_absent : (rows : List Row) (id : ℕ) → row_with id rows ≡ None → without id rows ≡ rows
+pub without_absent : (rows : List Row) (id : ℕ) → row_with id rows ≡ None → rows_without id rows ≡ rows
 without_absent [] id none = refl
 without_absent (r ∷ rs) id none = from (has_id id r) refl (without_absent rs id)
   where
-    from : (b : Bool) → has_id id r ≡ b → (row_with id rs ≡ None → without id rs ≡ rs) → without id (r ∷ rs) ≡ r ∷ rs
+    from : (b : Bool) → has_id id r ≡ b → (row_with id rs ≡ None → rows_without id rs ≡ rs) → rows_without id (r ∷ rs) ≡ r ∷ rs
     from true is rest = absurd (none_is_row r (sym none ∙ row_with-cons r rs id true is))
-    from false is rest = without-cons r rs id false is ∙ ap (λ xs. r ∷ xs) (rest (sym (row_with-cons r rs id false is) ∙ none))
+    from false is rest = rows_without-cons r rs id false is ∙ ap (λ xs. r ∷ xs) (rest (sym (row_with-cons r rs id false is) ∙ none))
 
 -- the others are found as before
-pub row_with-without : (rows : List Row) (id other : ℕ) → row_with other (without id rows) ≡ (if other == id then None else row_with other rows)
-row_with-without [] id other = none (other == id)
+pub row_with-rows_without : (rows : List Row) (id other : ℕ) → row_with other (rows_without id rows) ≡ (if other == id then None else row_with other rows)
+row_with-rows_without [] id other = none (other == id)
   where
     none : (b : Bool) → ◌≡◌ {A = Option Row} None (if b then None else None)
     none true = refl
     none false = refl
-row_with-without (r ∷ rs) id other = from (has_id id r) (has_id other r) (row_with-without rs id other) refl refl
+row_with-rows_without (r ∷ rs) id other = from (has_id id r) (has_id other r) (row_with-rows_without rs id other) refl refl
   where
-    from : (b d : Bool) → row_with other (without id rs) ≡ (if other == id then None else row_with other rs) → has_id id r ≡ b → has_id other r ≡ d
-        → row_with other (without id (r ∷ rs)) ≡ (if other == id then None else row_with other (r ∷ rs))
+    from : (b d : Bool) → row_with other (rows_without id rs) ≡ (if other == id then None else row_with other rs) → has_id id r ≡ b → has_id other r ≡ d
+        → row_with other (rows_without id (r ∷ rs)) ≡ (if other == id then None else row_with other (r ∷ rs))
     from true true rest here there =
         let same : (other == id) ≡ true = equal other id (sym (from_equal r.id other there) ∙ from_equal r.id id here) in
-        ap (row_with other) (without-cons r rs id true here) ∙ rest ∙ ap (λ b. if b then None else row_with other rs) same
+        ap (row_with other) (rows_without-cons r rs id true here) ∙ rest ∙ ap (λ b. if b then None else row_with other rs) same
         ∙ sym (ap (λ b. if b then None else row_with other (r ∷ rs)) same)
     from true false rest here there =
-        ap (row_with other) (without-cons r rs id true here) ∙ rest
+        ap (row_with other) (rows_without-cons r rs id true here) ∙ rest
         ∙ ap (λ found. if other == id then None else found) (sym (row_with-cons r rs other false there))
     from false true rest here there =
         let apart : (other == id) ≡ false = not_equal other id (λ same. false_is_true (sym here ∙ equal r.id id (from_equal r.id other there ∙ same))) in
-        ap (row_with other) (without-cons r rs id false here) ∙ row_with-cons r (without id rs) other true there
+        ap (row_with other) (rows_without-cons r rs id false here) ∙ row_with-cons r (rows_without id rs) other true there
         ∙ sym (ap (λ b. if b then None else row_with other (r ∷ rs)) apart ∙ row_with-cons r rs other true there)
     from false false rest here there =
-        ap (row_with other) (without-cons r rs id false here) ∙ row_with-cons r (without id rs) other false there ∙ rest
+        ap (row_with other) (rows_without-cons r rs id false here) ∙ row_with-cons r (rows_without id rs) other false there ∙ rest
         ∙ ap (λ found. if other == id then None else found) (sym (row_with-cons r rs other false there))
 
 -- they are no more than all
-pub without-length : (rows : List Row) (id : ℕ) → length (without id rows) ≤ length rows
-without-length [] id = omega arith
-without-length (row ∷ rows) id = from (not (has_id id row)) (without-length rows id)
+pub rows_without-length : (rows : List Row) (id : ℕ) → length (rows_without id rows) ≤ length rows
+rows_without-length [] id = omega arith
+rows_without-length (row ∷ rows) id = from (not (has_id id row)) (rows_without-length rows id)
   where
-    from : (b : Bool) → length (without id rows) ≤ length rows → length (cond b (row ∷ without id rows) (without id rows)) ≤ suc (length rows)
+    from : (b : Bool) → length (rows_without id rows) ≤ length rows → length (cond b (row ∷ rows_without id rows) (rows_without id rows)) ≤ suc (length rows)
     from true h = omega (arith, h)
     from false h = omega (arith, h)
 
 -- where a row has the id, they are one fewer
-pub length-without : (rows : List Row) → HasDistinctIds rows → (id : ℕ) (row : Row) → row_with id rows ≡ Some row → length (without id rows) + 1 ≡ length rows
-length-without [] distinct id row there = absurd (none_is_row row there)
-length-without (r ∷ rs) distinct id row there =
-    from (has_id id r) refl (length-without rs (λ i j d less below. distinct (suc i) (suc j) d (omega (arith, less)) (omega (arith, below))) id row)
+pub length-rows_without : (rows : List Row) → HasDistinctIds rows → (id : ℕ) (row : Row) → row_with id rows ≡ Some row → length (rows_without id rows) + 1 ≡ length rows
+length-rows_without [] distinct id row there = absurd (none_is_row row there)
+length-rows_without (r ∷ rs) distinct id row there =
+    from (has_id id r) refl (length-rows_without rs (λ i j d less below. distinct (suc i) (suc j) d (omega (arith, less)) (omega (arith, below))) id row)
   where
-    from : (b : Bool) → has_id id r ≡ b → (row_with id rs ≡ Some row → length (without id rs) + 1 ≡ length rs) → length (without id (r ∷ rs)) + 1 ≡ length (r ∷ rs)
+    from : (b : Bool) → has_id id r ≡ b → (row_with id rs ≡ Some row → length (rows_without id rs) + 1 ≡ length rs) → length (rows_without id (r ∷ rs)) + 1 ≡ length (r ∷ rs)
     from true is rest =
         let none = find-none (has_id id) rs (λ k d below. not_equal (get_or rs k d).id id (λ same.
         distinct 0 (suc k) d (omega arith) (omega (arith, below)) (from_equal r.id id is ∙ sym same))) in
-        let all : length (without id (r ∷ rs)) ≡ length rs = ap length (without-cons r rs id true is ∙ without_absent rs id none) in
+        let all : length (rows_without id (r ∷ rs)) ≡ length rs = ap length (rows_without-cons r rs id true is ∙ without_absent rs id none) in
         omega (arith, all)
     from false is rest =
         let inner = rest (sym (row_with-cons r rs id false is) ∙ there) in
-        let all : length (without id (r ∷ rs)) ≡ suc (length (without id rs)) = ap length (without-cons r rs id false is) in
+        let all : length (rows_without id (r ∷ rs)) ≡ suc (length (rows_without id rs)) = ap length (rows_without-cons r rs id false is) in
         omega (arith, inner, all)
 
 -- ---- the order of the rows

@@ -12,8 +12,8 @@ abbrev pub row_with : ℕ → List Row → Option Row
 row_with id rows = find (has_id id) rows
 
 -- the rows with other ids, in their order
-abbrev pub without : ℕ → List Row → List Row
-without id rows = filter (λ row. not (has_id id row)) rows
+abbrev pub rows_without : ℕ → List Row → List Row
+rows_without id rows = filter (λ row. not (has_id id row)) rows
 
 -- the ids of the rows, in their order
 abbrev pub ids_of : List Row → List ℕ

@@ -4,7 +4,7 @@ ghost use Rattle.std.specs.Option.{option_copied};
 ghost use Rattle.std.specs.List.Sorted.{IsPermutation};
 ghost use Rattle.std.specs.BTreeMap.{get};
 ghost use Rattle.std.specs.Ordering.{nat_cmp};
-ghost use Rattle.row_table.specs.Tables.{row_with, without, ids_of};
+ghost use Rattle.row_table.specs.Tables.{row_with, rows_without, ids_of};
 ghost use Rattle.row_table.specs.Places.{IsIndexed};
 
 use pivot_map::Row;
@@ -48,7 +48,7 @@ pub(crate) fn insert_row(
 pub(crate) fn remove_row(rows: &mut Vec<Row>, index: &mut BTreeMap<u32, usize>, id: u32) -> bool
     requires { IsIndexed (get nat_cmp index.old) (ids_of rows.old.items) }
     ensures found { result ≡ is_some (row_with id rows.old.items) }
-    ensures others { IsPermutation (without id rows.old.items) rows.new.items }
+    ensures others { IsPermutation (rows_without id rows.old.items) rows.new.items }
     ensures absent { row_with id rows.old.items ≡ None → rows.new.items ≡ rows.old.items }
     ensures indexed { IsIndexed (get nat_cmp index.new) (ids_of rows.new.items) }
 {

@@ -2,7 +2,7 @@
 ghost use Rattle.std.specs.Prelude.{◌≡◌, ◌++◌, ◌∷◌, [], length, is_some, None, OnOk, OnErr};
 ghost use Rattle.std.specs.Option.{option_copied};
 ghost use Rattle.std.specs.List.Sorted.{IsPermutation};
-ghost use Rattle.row_table.specs.Tables.{row_with, without, HasDistinctIds};
+ghost use Rattle.row_table.specs.Tables.{row_with, rows_without, HasDistinctIds};
 
 use crate::places::{find_row, insert_row, remove_row};
 use pivot_map::Row;
@@ -90,7 +90,7 @@ impl RowTable {
     /// takes no memory, and time in the logarithm of the number of rows.
     pub fn remove(&mut self, id: u32) -> bool
         ensures found { result ≡ is_some (row_with id self.old) }
-        ensures others { IsPermutation (without id self.old) self.new }
+        ensures others { IsPermutation (rows_without id self.old) self.new }
         ensures absent { row_with id self.old ≡ None → self.new ≡ self.old }
     {
         remove_row(&mut self.rows, &mut self.index, id)

@@ -1,4 +1,4 @@
-pub mod Arranged
+pub mod Sorted
 pub mod Entries
 pub mod Members
 pub mod RowOrder

@@ -9,8 +9,8 @@ use Rattle.spb_defs.specs.declared.TheConstants.{SAMPLE_LIMIT}
 use Rattle.spb_defs.specs.declared.Reply.TheVariants.{Done, Exists, Absent, Full, Curve}
 use Rattle.spb_defs.specs.declared.Command.{Command}
 use Rattle.spb_defs.specs.declared.Command.TheVariants as command
-use Rattle.spb_defs.specs.Scans.{Row, is_open, kth_rank, is_not_behind, is_open_pair, range_answer, near_answer, product, considered, join_answer}
-use Rattle.spb_defs.specs.State.{State, Members, joins, object_at, is_full, row_of, rows_of}
+use Rattle.spb_defs.specs.Scans.{Entry, needs_distance, kth_rank, is_in_reach, pair_needs_distance, range_answer, near_answer, product, considered_pairs, join_answer}
+use Rattle.spb_defs.specs.State.{State, Members, allows_joins, object_at, is_full, entry_in, entries_in}
 use Rattle.spb_defs.specs.Step.{sample_reply, get_reply, join_reply, reply_of, evals_of}
 
 -- ---- how many rows and pairs there are
@@ -24,39 +24,39 @@ module _ {A B : Type 0} (f : A → Option B) where
       one None is rest = rw is (omega (arith, rest))
       one (Some y) is rest = rw is (omega (arith, rest))
 
-length-rows_of : (members : Members) (c : ℕ) → length (rows_of members c) ≤ length members
-unfolding rows_of
-length-rows_of members c = length-picked (row_of c) members
+length-entries_in : (members : Members) (c : ℕ) → length (entries_in members c) ≤ length members
+unfolding entries_in
+length-entries_in members c = length-picked (entry_in c) members
 
-length-product : (left right : List Row) → length right ≤ 65536 → length (product left right) ≤ 65536 * length left
+length-product : (left right : List Entry) → length right ≤ 65536 → length (product left right) ≤ 65536 * length left
 length-product [] right few = omega arith
 length-product (a ∷ left) right few =
-    let pair : Row → Row × Row = λ b. (a, b) in
+    let pair : Entry → Entry × Entry = λ b. (a, b) in
     let here : length (map pair right) ≡ length right = length-map right pair in
     let rest = length-product left right few in
     let both = length-append (map pair right) (product left right) in omega (arith, here, rest, both, few)
 
-length-considered : (same : Bool) (left right : List Row) → length left ≤ 65536 → length right ≤ 65536 → length (considered same left right) ≤ 2 ^ 32
-length-considered false left right few few' = let all = length-product left right few' in omega (arith, all, few)
-length-considered true left right few few' =
+length-considered_pairs : (same : Bool) (left right : List Entry) → length left ≤ 65536 → length right ≤ 65536 → length (considered_pairs same left right) ≤ 2 ^ 32
+length-considered_pairs false left right few few' = let all = length-product left right few' in omega (arith, all, few)
+length-considered_pairs true left right few few' =
     let all = length-product left right few' in
-    let kept = length-filter (λ (p : Row × Row). nat_lt p.0.0 p.1.0) (product left right) in
-    let fewer = count_by-le-length (λ (p : Row × Row). nat_lt p.0.0 p.1.0) (product left right) in omega (arith, all, kept, fewer, few)
+    let kept = length-filter (λ (p : Entry × Entry). nat_lt p.0.0 p.1.0) (product left right) in
+    let fewer = count_by-le-length (λ (p : Entry × Entry). nat_lt p.0.0 p.1.0) (product left right) in omega (arith, all, kept, fewer, few)
 
 -- ---- how many distances the answers tell of
 
 module _ (dist : List ℕ → List ℕ → ℕ) (pivots : List (List ℕ)) where
-  range-few : (rows : List Row) (query : List ℕ) (radius : ℕ) → (range_answer dist pivots rows query radius).evals ≤ length pivots + length rows
+  range-few : (rows : List Entry) (query : List ℕ) (radius : ℕ) → (range_answer dist pivots rows query radius).evals ≤ length pivots + length rows
   unfolding range_answer
-  range-few rows query radius = let few = count_by-le-length (is_open dist pivots query radius) rows in omega (arith, few)
+  range-few rows query radius = let few = count_by-le-length (needs_distance dist pivots query radius) rows in omega (arith, few)
 
-  near-few : (rows : List Row) (query : List ℕ) (k : ℕ) → (near_answer dist pivots rows query k).evals ≤ length pivots + length rows
+  near-few : (rows : List Entry) (query : List ℕ) (k : ℕ) → (near_answer dist pivots rows query k).evals ≤ length pivots + length rows
   unfolding near_answer
-  near-few rows query k = let few = count_by-le-length (is_not_behind dist pivots query (kth_rank dist rows query k)) rows in omega (arith, few)
+  near-few rows query k = let few = count_by-le-length (is_in_reach dist pivots query (kth_rank dist rows query k)) rows in omega (arith, few)
 
-  join-few : (pairs : List (Row × Row)) (radius : ℕ) → (join_answer dist pivots pairs radius).evals ≤ length pairs
+  join-few : (pairs : List (Entry × Entry)) (radius : ℕ) → (join_answer dist pivots pairs radius).evals ≤ length pairs
   unfolding join_answer
-  join-few pairs radius = count_by-le-length (is_open_pair dist pivots radius) pairs
+  join-few pairs radius = count_by-le-length (pair_needs_distance dist pivots radius) pairs
 
 -- ---- replies that tell of none
 
@@ -85,16 +85,16 @@ get-none (Some object) = refl
 
 -- with at most 8 pivots and 65536 members
 module _ (t : State) (pivots : length t.pivots ≤ 8) (members : length t.members ≤ 65536) where
-  rows-few : (c : ℕ) → length (rows_of t.members c) ≤ 65536
-  rows-few c = let few = length-rows_of t.members c in omega (arith, few, members)
+  rows-few : (c : ℕ) → length (entries_in t.members c) ≤ 65536
+  rows-few c = let few = length-entries_in t.members c in omega (arith, few, members)
 
   join-by : (b : Bool) (c d radius : ℕ)
-      → evals_of (if b then join_reply (join_answer (dist t.space) t.pivots (considered (c == d) (rows_of t.members c) (rows_of t.members d)) radius) else Curve) ≤ 2 ^ 32
+      → evals_of (if b then join_reply (join_answer (dist t.space) t.pivots (considered_pairs (c == d) (entries_in t.members c) (entries_in t.members d)) radius) else Curve) ≤ 2 ^ 32
   join-by false c d radius = omega arith
   join-by true c d radius =
-      let pairs = considered (c == d) (rows_of t.members c) (rows_of t.members d) in
+      let pairs = considered_pairs (c == d) (entries_in t.members c) (entries_in t.members d) in
       let few = join-few (dist t.space) t.pivots pairs radius in
-      let all = length-considered (c == d) (rows_of t.members c) (rows_of t.members d) (rows-few c) (rows-few d) in omega (arith, few, all)
+      let all = length-considered_pairs (c == d) (entries_in t.members c) (entries_in t.members d) (rows-few c) (rows-few d) in omega (arith, few, all)
 
   pub evals-few : (asked : Command) → evals_of (reply_of t asked) ≤ 2 ^ 32
   unfolding reply_of
@@ -104,7 +104,7 @@ module _ (t : State) (pivots : length t.pivots ≤ 8) (members : length t.member
   evals-few (command.Get c id) = let none = get-none (object_at t c id) in omega (arith, none)
   evals-few (command.Count c) = omega arith
   evals-few (command.Range c radius query) =
-      let few = range-few (dist t.space) t.pivots (rows_of t.members c) query radius in let all = rows-few c in omega (arith, few, all, pivots)
+      let few = range-few (dist t.space) t.pivots (entries_in t.members c) query radius in let all = rows-few c in omega (arith, few, all, pivots)
   evals-few (command.Near c k query) =
-      let few = near-few (dist t.space) t.pivots (rows_of t.members c) query k in let all = rows-few c in omega (arith, few, all, pivots)
-  evals-few (command.Join c d radius) = join-by (joins t.curve) c d radius
+      let few = near-few (dist t.space) t.pivots (entries_in t.members c) query k in let all = rows-few c in omega (arith, few, all, pivots)
+  evals-few (command.Join c d radius) = join-by (allows_joins t.curve) c d radius

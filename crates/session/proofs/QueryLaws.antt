@@ -8,14 +8,14 @@ use Rattle.spb_defs.specs.declared.NearAnswer.{NearAnswer}
 use Rattle.spb_defs.specs.declared.JoinAnswer.{JoinAnswer}
 use Rattle.spb_defs.specs.declared.Reply.TheVariants.{Curve}
 use Rattle.spb_defs.specs.declared.Command.TheVariants as command
-use Rattle.spb_defs.specs.Measures.{IsMetricOf}
+use Rattle.spb_defs.specs.MetricOf.{IsMetricOf}
 use Rattle.spb_defs.specs.Pivots.{cells_of}
-use Rattle.spb_defs.specs.Scans.{range_answer, near_answer, considered, join_answer}
-use Rattle.spb_defs.specs.State.{State, joins, rows_of}
+use Rattle.spb_defs.specs.Scans.{range_answer, near_answer, considered_pairs, join_answer}
+use Rattle.spb_defs.specs.State.{State, allows_joins, entries_in}
 use Rattle.spb_defs.specs.Step.{range_reply, near_reply, join_reply, reply_of}
 use Rattle.pivot_map.specs.declared.row.Row.{Row}
 use Rattle.pivot_map.specs.Rows.{ArePivots, AreRows, entries_of}
-use Rattle.scan_laws.specs.RowOrder.{range_answer-moved, near_answer-moved, considered-moved, join_answer-moved}
+use Rattle.scan_laws.specs.RowOrder.{range_answer-moved, near_answer-moved, considered_pairs-moved, join_answer-moved}
 use Rattle.session.specs.Queries.{HoldsRows}
 
 -- ---- rows and pivots of a space are what its metric measures
@@ -43,7 +43,7 @@ module _ (admitted : List ℕ → Type 0) (distance : List ℕ → List ℕ → 
       (found
       ∙ ap (λ (f : List ℕ → List ℕ → ℕ). range_answer f pivots (entries_of rows) query radius) is.distance_is
       ∙ ap (λ (ps : List (List ℕ)). range_answer (dist s.space) ps (entries_of rows) query radius) (sym holds.pivots)
-      ∙ sym (range_answer-moved (dist s.space) s.pivots (rows_of s.members c) (entries_of rows) holds.rows query radius))
+      ∙ sym (range_answer-moved (dist s.space) s.pivots (entries_in s.members c) (entries_of rows) holds.rows query radius))
 
   pub near_said : (c k : ℕ) (query : List ℕ) (rows : List Row) (answer : NearAnswer) → HoldsRows s c pivots rows → answer ≡ near_answer distance pivots (entries_of rows) query k
       → near_reply answer ≡ reply_of s (command.Near c k query)
@@ -53,16 +53,16 @@ module _ (admitted : List ℕ → Type 0) (distance : List ℕ → List ℕ → 
       (found
       ∙ ap (λ (f : List ℕ → List ℕ → ℕ). near_answer f pivots (entries_of rows) query k) is.distance_is
       ∙ ap (λ (ps : List (List ℕ)). near_answer (dist s.space) ps (entries_of rows) query k) (sym holds.pivots)
-      ∙ sym (near_answer-moved (dist s.space) s.pivots (rows_of s.members c) (entries_of rows) holds.rows query k))
+      ∙ sym (near_answer-moved (dist s.space) s.pivots (entries_in s.members c) (entries_of rows) holds.rows query k))
 
-  pub join_said : (c d radius : ℕ) (left right : List Row) (answer : JoinAnswer) → joins s.curve ≡ true → HoldsRows s c pivots left → HoldsRows s d pivots right
-      → answer ≡ join_answer distance pivots (considered (c == d) (entries_of left) (entries_of right)) radius
+  pub join_said : (c d radius : ℕ) (left right : List Row) (answer : JoinAnswer) → allows_joins s.curve ≡ true → HoldsRows s c pivots left → HoldsRows s d pivots right
+      → answer ≡ join_answer distance pivots (considered_pairs (c == d) (entries_of left) (entries_of right)) radius
       → join_reply answer ≡ reply_of s (command.Join c d radius)
   unfolding reply_of
   join_said c d radius left right answer joined lefts rights found =
-      let own = considered (c == d) (entries_of left) (entries_of right) in
-      let all = considered (c == d) (rows_of s.members c) (rows_of s.members d) in
-      let moved = considered-moved (c == d) (rows_of s.members c) (entries_of left) (rows_of s.members d) (entries_of right) lefts.rows rights.rows in
+      let own = considered_pairs (c == d) (entries_of left) (entries_of right) in
+      let all = considered_pairs (c == d) (entries_in s.members c) (entries_in s.members d) in
+      let moved = considered_pairs-moved (c == d) (entries_in s.members c) (entries_of left) (entries_in s.members d) (entries_of right) lefts.rows rights.rows in
       ap join_reply
       (found
       ∙ ap (λ (f : List ℕ → List ℕ → ℕ). join_answer f pivots own radius) is.distance_is

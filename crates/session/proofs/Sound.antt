@@ -9,25 +9,25 @@ use Rattle.spb_defs.specs.declared.TheConstants.{MEMORY_CAP}
 use Rattle.spb_defs.specs.declared.Reply.TheVariants.{Done, Exists, Absent, Full, Object, Count}
 use Rattle.spb_defs.specs.declared.Command.{Command}
 use Rattle.spb_defs.specs.declared.Command.TheVariants as command
-use Rattle.spb_defs.specs.Measures.{IsMetricOf}
+use Rattle.spb_defs.specs.MetricOf.{IsMetricOf}
 use Rattle.spb_defs.specs.Pivots.{cells_of}
-use Rattle.spb_defs.specs.State.{closed, pivots_by, object_at, without_object}
+use Rattle.spb_defs.specs.State.{with_samples_closed, pivots_after_sampling, object_at, without_object}
 use Rattle.spb_defs.specs.Step.{reply_of, evals_of}
 use Rattle.spb_defs.specs.Choice.{chosen_samples}
 use Rattle.pivot_map.specs.declared.row.Row.{Row}
 use Rattle.pivot_map.specs.Rows.{ArePivots, AreRows}
-use Rattle.row_table.specs.Members.{rows_at, object_under, count_under, length_under, rows_under, length-part, members_of-pushed, sum-pushed, AreRows-push, members_of-without, sum-without, AreRows-without}
-use Rattle.row_table.specs.Tables.{row_with, without, HasDistinctIds}
+use Rattle.row_table.specs.Members.{rows_at, object_under, count_under, length_under, rows_under, length-part, members_of-pushed, sum-pushed, AreRows-push, members_of-rows_without, sum-rows_without, AreRows-rows_without}
+use Rattle.row_table.specs.Tables.{row_with, rows_without, HasDistinctIds}
 use Rattle.row_table.specs.TableLaws.{Contains-row_with}
 use Rattle.session.specs.declared.store.Store.{Store}
 use Rattle.session.specs.Queries.{HoldsRows}
-use Rattle.session.specs.Store.{state_of, with_member, IsSound}
+use Rattle.session.specs.Store.{state_of, with_member, IsStore}
 use Rattle.session.proofs.Evaluations.{evals-few}
 use Rattle.session.proofs.QueryLaws.{measured_pivots, measured_rows}
 use Rattle.session.proofs.StoreLaws.{Says, closed_already, add_existing, add_full, add_new, drop_absent, drop_there, get_absent, get_there, counted}
 
 -- a store that keeps no samples stands for a closed state
-pub closed_store : (store : Store) → store.sampling ≡ false → state_of store ≡ closed (state_of store)
+pub closed_store : (store : Store) → store.sampling ≡ false → state_of store ≡ with_samples_closed (state_of store)
 closed_store store shut = closed_already (state_of store) (ap (λ (b : Bool). if b then Some store.samples.items else None) shut)
 
 some_mapped : (o : Option Row) → is_some (option_map (λ (row : Row). row.object) o) ≡ is_some o
@@ -39,12 +39,12 @@ not_there None none = refl
 not_there (Some row) none = absurd (let both : true ≡ false = none in cc)
 
 -- a reply tells of few distances
-pub few_evals : (store : Store) → IsSound store → (asked : Command) → evals_of (reply_of (state_of store) asked) ≤ 2 ^ 32
+pub few_evals : (store : Store) → IsStore store → (asked : Command) → evals_of (reply_of (state_of store) asked) ≤ 2 ^ 32
 few_evals store sound asked =
     let many = length_under store.tables in
     let room = sound.room in evals-few (state_of store) sound.pivots.few (omega (arith, many, room)) asked
 
-module _ (store : Store) (sound : IsSound store) where
+module _ (store : Store) (sound : IsStore store) where
   distinct : All HasDistinctIds store.tables
   distinct = λ k d below. (sound.rows k d below).ids
 
@@ -117,7 +117,7 @@ module _ (store : Store) (sound : IsSound store) where
       pub put_state : state_of (record store { tables = slice_set store.tables c rows }) ≡ with_member (state_of store) c row.id row.object
       put_state = ap (λ members. record (state_of store) { members = members }) (members_of-pushed store.tables c row rows below is distinct none)
 
-      pub put_sound : store.sampling ≡ false → sum_by length store.tables < MEMORY_CAP → IsValid store.space row.object → row.vect ≡ cells_of (dist store.space) store.pivots.items row.object → IsSound (record store { tables = slice_set store.tables c rows })
+      pub put_sound : store.sampling ≡ false → sum_by length store.tables < MEMORY_CAP → IsValid store.space row.object → row.vect ≡ cells_of (dist store.space) store.pivots.items row.object → IsStore (record store { tables = slice_set store.tables c rows })
       put_sound shut room valid vect = record {
         in_range = sound.in_range;
         few_wanted = sound.few_wanted;
@@ -141,11 +141,11 @@ module _ (store : Store) (sound : IsSound store) where
     pub dropped_nothing : (id : ℕ) → is_some (row_with id (rows_at store.tables c)) ≡ false → Says (state_of store) (command.Discard c id) Absent (state_of store)
     dropped_nothing id none = drop_absent (state_of store) c id (there_if id none)
 
-    module _ (id : ℕ) (left : List Row) (moved : IsPermutation (without id (rows_at store.tables c)) left) where
+    module _ (id : ℕ) (left : List Row) (moved : IsPermutation (rows_without id (rows_at store.tables c)) left) where
       pub cut_state : state_of (record store { tables = slice_set store.tables c left }) ≡ record (state_of store) { members = without_object (state_of store).members c id }
-      cut_state = ap (λ members. record (state_of store) { members = members }) (members_of-without store.tables c id left below moved distinct)
+      cut_state = ap (λ members. record (state_of store) { members = members }) (members_of-rows_without store.tables c id left below moved distinct)
 
-      pub cut_sound : store.sampling ≡ false → IsSound (record store { tables = slice_set store.tables c left })
+      pub cut_sound : store.sampling ≡ false → IsStore (record store { tables = slice_set store.tables c left })
       cut_sound shut = record {
         in_range = sound.in_range;
         few_wanted = sound.few_wanted;
@@ -153,8 +153,8 @@ module _ (store : Store) (sound : IsSound store) where
         few_samples = sound.few_samples;
         pivots = sound.pivots;
         rows = All-set (AreRows (IsValid store.space) (dist store.space) store.pivots.items) store.tables c left
-            (AreRows-without (IsValid store.space) (dist store.space) store.pivots.items (rows_at store.tables c) left id moved held) sound.rows;
-        room = let less = sum-without store.tables c id left below moved in let room = sound.room in omega (arith, less, room);
+            (AreRows-rows_without (IsValid store.space) (dist store.space) store.pivots.items (rows_at store.tables c) left id moved held) sound.rows;
+        room = let less = sum-rows_without store.tables c id left below moved in let room = sound.room in omega (arith, less, room);
         four = length-set store.tables c left ∙ sound.four;
         none_yet = λ opened. absurd (let both : true ≡ false = sym opened ∙ shut in cc);
       }
@@ -167,7 +167,7 @@ module _ (store : Store) (sound : IsSound store) where
 
 -- the state with pivots by its samples, which it keeps no more
 pub closed_by : (store : Store) (pivots : List (List ℕ)) → store.sampling ≡ true → pivots ≡ chosen_samples (dist store.space) store.samples.items (min store.wanted (length store.samples.items))
-    → record (state_of store) { pivots = pivots; samples = None } ≡ closed (state_of store)
+    → record (state_of store) { pivots = pivots; samples = None } ≡ with_samples_closed (state_of store)
 closed_by store pivots kept is =
     ap (λ (pivots : List (List ℕ)). record (state_of store) { pivots = pivots; samples = None })
-    (is ∙ sym (ap (λ (b : Bool). pivots_by (state_of store) (if b then Some store.samples.items else None)) kept))
+    (is ∙ sym (ap (λ (b : Bool). pivots_after_sampling (state_of store) (if b then Some store.samples.items else None)) kept))

@@ -5,9 +5,9 @@ use Rattle.spb_edge.specs.declared.reader.Line.{Line}
 use Rattle.spb_edge.specs.declared.memory.Memory.{Memory}
 use Rattle.spb_defs.specs.declared.Command.{Command}
 use Rattle.spb_defs.specs.declared.Reply.{Reply}
-use Rattle.spb_defs.specs.State.{State, rows_of}
-use Rattle.spb_defs.specs.Step.{reply, next, reply_to, after, evals_of}
-use Rattle.spb_defs.specs.CommandText.{IsProper}
+use Rattle.spb_defs.specs.State.{State, entries_in}
+use Rattle.spb_defs.specs.Step.{reply, next_state, reply_to, state_after, evals_of}
+use Rattle.spb_defs.specs.CommandText.{IsWellFormed}
 use Rattle.cmd_grammar.specs.HoldsObject.{HoldsObject}
 use Rattle.pivot_map.specs.declared.row.Row.{Row}
 use Rattle.pivot_map.specs.Rows.{entries_of}
@@ -15,11 +15,11 @@ use Rattle.pivot_map.specs.Rows.{entries_of}
 -- the state has these pivots, and its collection these rows, in any order
 pub record HoldsRows (s : State) (c : ℕ) (known : List (List ℕ)) (table : List Row) : Type 0 where
   pub pivots : s.pivots ≡ known
-  pub rows : IsPermutation (rows_of s.members c) (entries_of table)
+  pub rows : IsPermutation (entries_in s.members c) (entries_of table)
 
 -- What a line is to a state: a command, which decides the reply and the state after it, or a line that is no command,
 -- which is answered at once, tells of no distance and changes nothing. Nothing is said where memory runs out.
 abbrev pub ReadsLine : Result (Result Command Reply) Memory → State → Line → Type 0
-ReadsLine (Ok (Ok read)) s line = (reply s line ≡ reply_to s read) × (next s line ≡ after s read) × IsProper s.space read
-ReadsLine (Ok (Err said)) s line = (said ≡ reply s line) × (next s line ≡ s) × HoldsObject s.space said × (evals_of said ≡ 0)
+ReadsLine (Ok (Ok read)) s line = (reply s line ≡ reply_to s read) × (next_state s line ≡ state_after s read) × IsWellFormed s.space read
+ReadsLine (Ok (Err said)) s line = (said ≡ reply s line) × (next_state s line ≡ s) × HoldsObject s.space said × (evals_of said ≡ 0)
 ReadsLine (Err memory) s line = Unit {0}

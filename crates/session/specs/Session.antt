@@ -3,7 +3,7 @@ use Rattle.std.specs.Prelude.{◌≡◌, Bool, true, false, Result, Ok, Err}
 use Rattle.spb_edge.specs.declared.reader.Line.{Line}
 use Rattle.spb_defs.specs.declared.Reply.{Reply}
 use Rattle.spb_defs.specs.State.{State}
-use Rattle.spb_defs.specs.Step.{reply, next}
+use Rattle.spb_defs.specs.Step.{reply, next_state}
 use Rattle.cmd_grammar.specs.HoldsObject.{HoldsObject}
 use Rattle.session.specs.declared.mem_session.Ending.{Ending}
 use Rattle.session.specs.declared.mem_session.Ending.TheVariants as ending
@@ -16,8 +16,8 @@ pub record Session : Type 0 where
 -- A reply comes exactly if the session hasn't ended, unless memory runs out: it is that of the state to the line, any
 -- object in it is one of the space, and the session goes on with the state after the line. If memory runs out the session
 -- has ended, and an ended session stays as it is.
-abbrev pub Answers : Result Reply Ending → Session → Line → Session → Type 0
-Answers (Ok said) old line new =
-    (old.ended ≡ false) × (said ≡ reply old.state line) × HoldsObject old.state.space said × (new.state ≡ next old.state line) × (new.ended ≡ false)
-Answers (Err ending.NoMemory) old line new = (old.ended ≡ false) × (new.ended ≡ true)
-Answers (Err ending.Spent) old line new = (old.ended ≡ true) × (new ≡ old)
+abbrev pub AnswersTurn : Result Reply Ending → Session → Line → Session → Type 0
+AnswersTurn (Ok said) old line new =
+    (old.ended ≡ false) × (said ≡ reply old.state line) × HoldsObject old.state.space said × (new.state ≡ next_state old.state line) × (new.ended ≡ false)
+AnswersTurn (Err ending.NoMemory) old line new = (old.ended ≡ false) × (new.ended ≡ true)
+AnswersTurn (Err ending.Spent) old line new = (old.ended ≡ true) × (new ≡ old)

@@ -39,7 +39,7 @@ IsReady sampling (Join c d r) = sampling ≡ false
 
 -- the space fits, the samples and the pivots are objects of it, each of the four tables has rows by the pivots,
 -- there are no more rows than there may be, and none while samples are kept
-pub record IsSound (store : Store) : Type 0 where
+pub record IsStore (store : Store) : Type 0 where
   pub in_range : IsTrue (fits store.space)
   pub few_wanted : store.wanted ≤ 8
   pub samples : All (IsValid store.space) store.samples.items

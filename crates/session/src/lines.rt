@@ -14,7 +14,7 @@ use std::alloc::Global;
 /// # Errors
 ///
 /// [`Memory`] if it runs out.
-#[tactic(auto, unfolding(spb_defs::specs::Step::reply, spb_defs::specs::Step::next))]
+#[tactic(auto, unfolding(spb_defs::specs::Step::reply, spb_defs::specs::Step::next_state))]
 pub(crate) fn read_line(
     alloc: Global,
     space: &Space,

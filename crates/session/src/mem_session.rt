@@ -36,12 +36,12 @@ impl<M: Metric> Model for MemSession<M> {
 
     ghost Value = { Session };
 
-    ghost use Rattle.spb_defs.specs.Measures.{IsMetricOf};
-    ghost use Rattle.session.specs.Store.{IsSound, state_of};
+    ghost use Rattle.spb_defs.specs.MetricOf.{IsMetricOf};
+    ghost use Rattle.session.specs.Store.{IsStore, state_of};
 
     ghost view = { λ s. record { state = state_of s.store; ended = s.ended } };
 
-    ghost invariant = { λ s. IsSound s.store × IsMetricOf (M.admitted s.metric) (M.dist s.metric) s.store.space };
+    ghost invariant = { λ s. IsStore s.store × IsMetricOf (M.admitted s.metric) (M.dist s.metric) s.store.space };
 }
 
 impl<M: Metric> MemSession<M> {
@@ -49,9 +49,9 @@ impl<M: Metric> MemSession<M> {
     ghost use Rattle.metrics_builtin.specs.Space.{fits};
     ghost use Rattle.spb_edge.specs.declared.reader.Line.{Line};
     ghost use Rattle.spb_defs.specs.State.{empty_in_memory};
-    ghost use Rattle.spb_defs.specs.Measures.{IsMetricOf};
+    ghost use Rattle.spb_defs.specs.MetricOf.{IsMetricOf};
     ghost use Rattle.spb_defs.specs.Step.{evals_of};
-    ghost use Rattle.session.specs.Session.{Answers};
+    ghost use Rattle.session.specs.Session.{AnswersTurn};
     ghost use Rattle.session.specs.declared.mem_session.Ending.{Ending};
 
     /// A session over an empty store of the space, which `metric` measures. So many pivots are wanted, 0 to
@@ -93,7 +93,7 @@ impl<M: Metric> MemSession<M> {
         requires line { line.now ≡ Line.End → ⊥ }
         requires ruler { IsMetricOf (R.admitted (R.kind ruler.old)) (R.dist (R.kind ruler.old)) self.old.state.space }
         requires room { R.count ruler.old < 2 ^ 63 }
-        ensures answers { Answers result self.old line.now self.new }
+        ensures answers { AnswersTurn result self.old line.now self.new }
         ensures space { self.new.state.space ≡ self.old.state.space }
         ensures kind { R.kind ruler.new ≡ R.kind ruler.old }
         ensures rises { R.count ruler.old ≤ R.count ruler.new }

@@ -2,8 +2,8 @@
 ghost use Rattle.std.specs.Prelude.{◌≡◌, ◌+◌, ◌^◌, ◌<◌, ◌≤◌, true, IfOk};
 ghost use Rattle.metrics_builtin.specs.declared.Space.{Space};
 ghost use Rattle.spb_defs.specs.declared.Command.{Command};
-ghost use Rattle.spb_defs.specs.Measures.{IsMetricOf};
-ghost use Rattle.spb_defs.specs.State.{State, joins};
+ghost use Rattle.spb_defs.specs.MetricOf.{IsMetricOf};
+ghost use Rattle.spb_defs.specs.State.{State, allows_joins};
 ghost use Rattle.spb_defs.specs.Step.{reply_of, evals_of};
 ghost use Rattle.cmd_grammar.specs.HoldsObject.{HoldsObject};
 ghost use Rattle.pivot_map.specs.Rows.{ArePivots, AreRows};
@@ -104,7 +104,7 @@ pub(crate) fn join_of<R: Ruler>(
     requires right { AreRows (R.admitted (R.kind ruler.old)) (R.dist (R.kind ruler.old)) pivots.now right.now }
     requires same { c ≡ d → left.now ≡ right.now }
     requires room { R.count ruler.old < 2 ^ 63 }
-    ensures reply { (s : State) → IsMetricOf (R.admitted (R.kind ruler.old)) (R.dist (R.kind ruler.old)) s.space → joins s.curve ≡ true
+    ensures reply { (s : State) → IsMetricOf (R.admitted (R.kind ruler.old)) (R.dist (R.kind ruler.old)) s.space → allows_joins s.curve ≡ true
         → HoldsRows s c pivots.now left.now → HoldsRows s d pivots.now right.now
         → IfOk result (λ said. said ≡ reply_of s (Command.Join c d radius)) }
     ensures object { (space : Space) → IfOk result (λ said. HoldsObject space said) }

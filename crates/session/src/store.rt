@@ -29,12 +29,12 @@ impl Store {
     ghost use Rattle.metrics_builtin.specs.Space.{fits, IsValid};
     ghost use Rattle.spb_edge.specs.declared.reader.Line.{Line};
     ghost use Rattle.spb_defs.specs.declared.Command.{Command};
-    ghost use Rattle.spb_defs.specs.Measures.{IsMetricOf};
-    ghost use Rattle.spb_defs.specs.State.{closed, empty_in_memory};
-    ghost use Rattle.spb_defs.specs.Step.{acted_on, reply_of, changed_by, reply_to, after, reply, next, evals_of};
-    ghost use Rattle.spb_defs.specs.CommandText.{IsProper};
+    ghost use Rattle.spb_defs.specs.MetricOf.{IsMetricOf};
+    ghost use Rattle.spb_defs.specs.State.{with_samples_closed, empty_in_memory};
+    ghost use Rattle.spb_defs.specs.Step.{acting_state, reply_of, changed_state, reply_to, state_after, reply, next_state, evals_of};
+    ghost use Rattle.spb_defs.specs.CommandText.{IsWellFormed};
     ghost use Rattle.cmd_grammar.specs.HoldsObject.{HoldsObject};
-    ghost use Rattle.session.specs.Store.{IsSound, IsReady, state_of, with_member};
+    ghost use Rattle.session.specs.Store.{IsStore, IsReady, state_of, with_member};
     ghost use Rattle.row_table.specs.Members.{rows_at};
     ghost use Rattle.row_table.specs.Tables.{row_with};
     ghost use Rattle.spb_defs.specs.declared.TheConstants.{MEMORY_CAP};
@@ -44,7 +44,7 @@ impl Store {
         requires fits { IsTrue (fits space) }
         requires few { wanted ≤ 8 }
         ensures empty { state_of result ≡ empty_in_memory space wanted }
-        ensures sound { IsSound result }
+        ensures sound { IsStore result }
     {
         Store {
             space,
@@ -69,19 +69,19 @@ impl Store {
         ruler: &mut R,
         line: &Line,
     ) -> Result<Reply, Memory>
-        requires sound { IsSound self.old }
+        requires sound { IsStore self.old }
         requires metric { IsMetricOf (M.admitted metric.now) (M.dist metric.now) self.old.space }
         requires ruler { IsMetricOf (R.admitted (R.kind ruler.old)) (R.dist (R.kind ruler.old)) self.old.space }
         requires room { R.count ruler.old < 2 ^ 63 }
         ensures reply { IfOk result (λ said. said ≡ reply (state_of self.old) line.now) }
-        ensures next { OnOk result (state_of self.new ≡ next (state_of self.old) line.now) }
+        ensures next { OnOk result (state_of self.new ≡ next_state (state_of self.old) line.now) }
         ensures object { IfOk result (λ said. HoldsObject self.old.space said) }
         ensures few { IfOk result (λ said. evals_of said ≤ 2 ^ 32) }
         ensures count { IfOk result (λ said. R.count ruler.new ≡ R.count ruler.old + evals_of said) }
         ensures rises { R.count ruler.old ≤ R.count ruler.new }
         ensures kind { R.kind ruler.new ≡ R.kind ruler.old }
         ensures space { self.new.space ≡ self.old.space }
-        ensures sound { IsSound self.new }
+        ensures sound { IsStore self.new }
     {
         match read_line(alloc, &self.space, line)? {
             Ok(command) => self.execute(alloc, metric, ruler, command),
@@ -97,20 +97,20 @@ impl Store {
         ruler: &mut R,
         command: Command,
     ) -> Result<Reply, Memory>
-        requires sound { IsSound self.old }
+        requires sound { IsStore self.old }
         requires metric { IsMetricOf (M.admitted metric.now) (M.dist metric.now) self.old.space }
         requires ruler { IsMetricOf (R.admitted (R.kind ruler.old)) (R.dist (R.kind ruler.old)) self.old.space }
         requires room { R.count ruler.old < 2 ^ 63 }
-        requires proper { IsProper self.old.space command }
+        requires proper { IsWellFormed self.old.space command }
         ensures reply { IfOk result (λ said. said ≡ reply_to (state_of self.old) command) }
-        ensures next { OnOk result (state_of self.new ≡ after (state_of self.old) command) }
+        ensures next { OnOk result (state_of self.new ≡ state_after (state_of self.old) command) }
         ensures object { IfOk result (λ said. HoldsObject self.old.space said) }
         ensures few { IfOk result (λ said. evals_of said ≤ 2 ^ 32) }
         ensures count { IfOk result (λ said. R.count ruler.new ≡ R.count ruler.old + evals_of said) }
         ensures rises { R.count ruler.old ≤ R.count ruler.new }
         ensures kind { R.kind ruler.new ≡ R.kind ruler.old }
         ensures space { self.new.space ≡ self.old.space }
-        ensures sound { IsSound self.new }
+        ensures sound { IsStore self.new }
     {
         self.make_ready(alloc, metric, &command)?;
         self.execute_ready(alloc, metric, ruler, command)
@@ -123,12 +123,12 @@ impl Store {
         metric: &M,
         command: &Command,
     ) -> Result<(), Memory>
-        requires sound { IsSound self.old }
+        requires sound { IsStore self.old }
         requires metric { IsMetricOf (M.admitted metric.now) (M.dist metric.now) self.old.space }
-        ensures acted_on { OnOk result (state_of self.new ≡ acted_on (state_of self.old) command.now) }
+        ensures acted_on { OnOk result (state_of self.new ≡ acting_state (state_of self.old) command.now) }
         ensures ready { OnOk result (IsReady self.new.sampling command.now) }
         ensures space { self.new.space ≡ self.old.space }
-        ensures sound { IsSound self.new }
+        ensures sound { IsStore self.new }
     {
         match command {
             Command::Sample { .. } => Ok(()),
@@ -143,7 +143,7 @@ impl Store {
     }
 
     /// The reply to the command, and the store after it. The samples are closed, unless it is a sample.
-    #[tactic(auto, unfolding(spb_defs::specs::Step::changed_by))]
+    #[tactic(auto, unfolding(spb_defs::specs::Step::changed_state))]
     fn execute_ready<M: Metric, R: Ruler>(
         &mut self,
         alloc: Global,
@@ -151,20 +151,20 @@ impl Store {
         ruler: &mut R,
         command: Command,
     ) -> Result<Reply, Memory>
-        requires sound { IsSound self.old }
+        requires sound { IsStore self.old }
         requires metric { IsMetricOf (M.admitted metric.now) (M.dist metric.now) self.old.space }
         requires ruler { IsMetricOf (R.admitted (R.kind ruler.old)) (R.dist (R.kind ruler.old)) self.old.space }
         requires room { R.count ruler.old < 2 ^ 63 }
-        requires proper { IsProper self.old.space command }
+        requires proper { IsWellFormed self.old.space command }
         requires ready { IsReady self.old.sampling command }
         ensures reply { IfOk result (λ said. said ≡ reply_of (state_of self.old) command) }
-        ensures next { OnOk result (state_of self.new ≡ changed_by (state_of self.old) command) }
+        ensures next { OnOk result (state_of self.new ≡ changed_state (state_of self.old) command) }
         ensures object { IfOk result (λ said. HoldsObject self.old.space said) }
         ensures count { IfOk result (λ said. R.count ruler.new ≡ R.count ruler.old + evals_of said) }
         ensures rises { R.count ruler.old ≤ R.count ruler.new }
         ensures kind { R.kind ruler.new ≡ R.kind ruler.old }
         ensures space { self.new.space ≡ self.old.space }
-        ensures sound { IsSound self.new }
+        ensures sound { IsStore self.new }
     {
         match command {
             Command::Sample { object } => self.sample(object),
@@ -181,12 +181,12 @@ impl Store {
     /// Closes the samples, if they are open: the pivots are chosen from them. If memory runs out nothing
     /// changes.
     fn close<M: Metric>(&mut self, alloc: Global, metric: &M) -> Result<(), Memory>
-        requires sound { IsSound self.old }
+        requires sound { IsStore self.old }
         requires metric { IsMetricOf (M.admitted metric.now) (M.dist metric.now) self.old.space }
-        ensures closed { OnOk result (state_of self.new ≡ closed (state_of self.old)) }
+        ensures closed { OnOk result (state_of self.new ≡ with_samples_closed (state_of self.old)) }
         ensures sampling { OnOk result (self.new.sampling ≡ false) }
         ensures space { self.new.space ≡ self.old.space }
-        ensures sound { IsSound self.new }
+        ensures sound { IsStore self.new }
     {
         if !self.sampling {
             return Ok(());
@@ -200,14 +200,14 @@ impl Store {
 
     /// Keeps the object as a sample, while the samples are open and there is room.
     fn sample(&mut self, object: Bytes) -> Result<Reply, Memory>
-        requires sound { IsSound self.old }
+        requires sound { IsStore self.old }
         requires object { IsValid self.old.space object }
         ensures reply { IfOk result (λ said. said ≡ reply_of (state_of self.old) (Command.Sample object)) }
-        ensures next { OnOk result (state_of self.new ≡ changed_by (state_of self.old) (Command.Sample object)) }
+        ensures next { OnOk result (state_of self.new ≡ changed_state (state_of self.old) (Command.Sample object)) }
         ensures object { IfOk result (λ said. HoldsObject self.old.space said) }
         ensures unmeasured { IfOk result (λ said. evals_of said ≡ 0) }
         ensures space { self.new.space ≡ self.old.space }
-        ensures sound { IsSound self.new }
+        ensures sound { IsStore self.new }
     {
         if !self.sampling {
             return Ok(Reply::Late);
@@ -221,7 +221,7 @@ impl Store {
 
     /// How many objects there are, in all collections.
     fn len(&self) -> usize
-        requires sound { IsSound self.now }
+        requires sound { IsStore self.now }
         ensures { result ≡ sum_by length self.now.tables }
     {
         self.tables[0].len() + self.tables[1].len() + self.tables[2].len() + self.tables[3].len()
@@ -230,17 +230,17 @@ impl Store {
     /// Adds the object, if the collection doesn't have the id and there is room. It takes the distances to
     /// the pivots, and time in the logarithm of the number of objects.
     fn add<M: Metric>(&mut self, metric: &M, c: u8, id: u32, object: Bytes) -> Result<Reply, Memory>
-        requires sound { IsSound self.old }
+        requires sound { IsStore self.old }
         requires metric { IsMetricOf (M.admitted metric.now) (M.dist metric.now) self.old.space }
         requires closed { self.old.sampling ≡ false }
         requires collection { c < 4 }
         requires object { IsValid self.old.space object }
         ensures reply { IfOk result (λ said. said ≡ reply_of (state_of self.old) (Command.Add c id object)) }
-        ensures next { OnOk result (state_of self.new ≡ changed_by (state_of self.old) (Command.Add c id object)) }
+        ensures next { OnOk result (state_of self.new ≡ changed_state (state_of self.old) (Command.Add c id object)) }
         ensures object { IfOk result (λ said. HoldsObject self.old.space said) }
         ensures unmeasured { IfOk result (λ said. evals_of said ≡ 0) }
         ensures space { self.new.space ≡ self.old.space }
-        ensures sound { IsSound self.new }
+        ensures sound { IsStore self.new }
     {
         if self.tables[c as usize].has(id) {
             return Ok(Reply::Exists);
@@ -254,7 +254,7 @@ impl Store {
 
     /// Adds a row for the object to a collection that doesn't have the id, while there is room.
     fn put<M: Metric>(&mut self, metric: &M, c: u8, id: u32, object: Bytes) -> Result<(), Memory>
-        requires sound { IsSound self.old }
+        requires sound { IsStore self.old }
         requires metric { IsMetricOf (M.admitted metric.now) (M.dist metric.now) self.old.space }
         requires collection { c < 4 }
         requires object { IsValid self.old.space object }
@@ -263,7 +263,7 @@ impl Store {
         requires room { sum_by length self.old.tables < MEMORY_CAP }
         ensures members { OnOk result (state_of self.new ≡ with_member (state_of self.old) c id object) }
         ensures space { self.new.space ≡ self.old.space }
-        ensures sound { IsSound self.new }
+        ensures sound { IsStore self.new }
     {
         let mut ruler = Counted::new(*metric);
         let vect = map_object(&mut ruler, self.pivots.as_slice(), object.as_slice());
@@ -274,15 +274,15 @@ impl Store {
     /// Takes the object out, if the collection has the id. It takes time in the logarithm of the number of
     /// objects.
     fn discard(&mut self, c: u8, id: u32) -> Reply
-        requires sound { IsSound self.old }
+        requires sound { IsStore self.old }
         requires closed { self.old.sampling ≡ false }
         requires collection { c < 4 }
         ensures reply { result ≡ reply_of (state_of self.old) (Command.Discard c id) }
-        ensures next { state_of self.new ≡ changed_by (state_of self.old) (Command.Discard c id) }
+        ensures next { state_of self.new ≡ changed_state (state_of self.old) (Command.Discard c id) }
         ensures object { HoldsObject self.old.space result }
         ensures unmeasured { evals_of result ≡ 0 }
         ensures space { self.new.space ≡ self.old.space }
-        ensures sound { IsSound self.new }
+        ensures sound { IsStore self.new }
     {
         if self.tables[c as usize].remove(id) {
             Reply::Done
@@ -294,7 +294,7 @@ impl Store {
     /// The object, if the collection has the id. It takes time in the logarithm of the number of objects,
     /// and memory for a copy.
     fn get(&self, alloc: Global, c: u8, id: u32) -> Result<Reply, Memory>
-        requires sound { IsSound self.now }
+        requires sound { IsStore self.now }
         requires collection { c < 4 }
         ensures reply { IfOk result (λ said. said ≡ reply_of (state_of self.now) (Command.Get c id)) }
         ensures object { IfOk result (λ said. HoldsObject self.now.space said) }
@@ -308,7 +308,7 @@ impl Store {
 
     /// How many objects the collection has.
     fn count(&self, c: u8) -> Reply
-        requires sound { IsSound self.now }
+        requires sound { IsStore self.now }
         requires collection { c < 4 }
         ensures reply { result ≡ reply_of (state_of self.now) (Command.Count c) }
         ensures object { HoldsObject self.now.space result }
@@ -326,7 +326,7 @@ impl Store {
         radius: u32,
         query: &Bytes,
     ) -> Result<Reply, Memory>
-        requires sound { IsSound self.now }
+        requires sound { IsStore self.now }
         requires ruler { IsMetricOf (R.admitted (R.kind ruler.old)) (R.dist (R.kind ruler.old)) self.now.space }
         requires room { R.count ruler.old < 2 ^ 63 }
         requires collection { c < 4 }
@@ -350,7 +350,7 @@ impl Store {
         k: u32,
         query: &Bytes,
     ) -> Result<Reply, Memory>
-        requires sound { IsSound self.now }
+        requires sound { IsStore self.now }
         requires ruler { IsMetricOf (R.admitted (R.kind ruler.old)) (R.dist (R.kind ruler.old)) self.now.space }
         requires room { R.count ruler.old < 2 ^ 63 }
         requires collection { c < 4 }
@@ -375,7 +375,7 @@ impl Store {
         d: u8,
         radius: u32,
     ) -> Result<Reply, Memory>
-        requires sound { IsSound self.now }
+        requires sound { IsStore self.now }
         requires ruler { IsMetricOf (R.admitted (R.kind ruler.old)) (R.dist (R.kind ruler.old)) self.now.space }
         requires room { R.count ruler.old < 2 ^ 63 }
         requires left { c < 4 }

@@ -5,7 +5,7 @@ use Rattle.spb_edge.specs.declared.source.Take.{Take}
 use Rattle.spb_edge.specs.declared.source.Take.TheVariants.{Got, End, Failed as TakeFailed}
 use Rattle.spb_edge.specs.declared.sink.Put.{Put}
 use Rattle.spb_edge.specs.declared.sink.Put.TheVariants.{Took, Failed as PutFailed}
-use Rattle.spb_edge.specs.Fault.{counted}
+use Rattle.spb_edge.specs.Fault.{next_count}
 
 -- the reader gave the bytes got; where the source is at its end the reader is and gave none, and where
 -- the source failed it kept all
@@ -18,23 +18,23 @@ ReadsFrom TakeFailed old new into = Keeps old new
 abbrev pub CountsTake : Take → ℕ → ℕ → Type 0
 CountsTake (Got n) before now = now ≡ before
 CountsTake End before now = now ≡ before
-CountsTake TakeFailed before now = now ≡ counted before
+CountsTake TakeFailed before now = now ≡ next_count before
 
 -- the writer holds a front of the bytes behind what it held
-abbrev pub AppendsFront : Option (List ℕ) → Option (List ℕ) → List ℕ → Type 0
-AppendsFront old new bytes = (n : ℕ) × (n ≤ length bytes) × Appends old new (take n bytes)
+abbrev pub AppendsPrefix : Option (List ℕ) → Option (List ℕ) → List ℕ → Type 0
+AppendsPrefix old new bytes = (n : ℕ) × (n ≤ length bytes) × Appends old new (take n bytes)
 
 -- that many of the bytes were written, or some front of them
-abbrev pub WritesFront : {E : Type 0} → Result ℕ E → Option (List ℕ) → Option (List ℕ) → List ℕ → Type 0
-WritesFront (Ok n) old new bytes = Appends old new (take n bytes)
-WritesFront (Err _) old new bytes = AppendsFront old new bytes
+abbrev pub WritesPrefix : {E : Type 0} → Result ℕ E → Option (List ℕ) → Option (List ℕ) → List ℕ → Type 0
+WritesPrefix (Ok n) old new bytes = Appends old new (take n bytes)
+WritesPrefix (Err _) old new bytes = AppendsPrefix old new bytes
 
 -- what was taken of the piece was written, or the sink failed and wrote some front of it
 abbrev pub WritesTo : Put → Option (List ℕ) → Option (List ℕ) → List ℕ → Type 0
 WritesTo (Took n) old new piece = Appends old new (take n piece)
-WritesTo PutFailed old new piece = AppendsFront old new piece
+WritesTo PutFailed old new piece = AppendsPrefix old new piece
 
 -- a failure is counted once, and nothing else is
 abbrev pub CountsPut : Put → ℕ → ℕ → Type 0
 CountsPut (Took n) before now = now ≡ before
-CountsPut PutFailed before now = now ≡ counted before
+CountsPut PutFailed before now = now ≡ next_count before

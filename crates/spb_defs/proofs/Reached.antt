@@ -10,16 +10,16 @@ use Rattle.spb_defs.specs.declared.Command.{Command}
 use Rattle.spb_defs.specs.declared.Command.TheVariants as command
 use Rattle.spb_defs.specs.declared.Reply.TheVariants.{Done, Exists, Absent, Full}
 use Rattle.spb_defs.specs.declared.What.{What}
-use Rattle.spb_defs.specs.State.{State, closed, pivots_by, object_at, is_full, with_object, without_object}
+use Rattle.spb_defs.specs.State.{State, with_samples_closed, pivots_after_sampling, object_at, is_full, with_object, without_object}
 use Rattle.spb_defs.specs.Grammar.{command_of}
-use Rattle.spb_defs.specs.Step.{with_sample, reply_to, after, reply_of, changed_by, reply_read, after_read, reply, next}
-use Rattle.spb_defs.specs.Changes.{IsReached, after_lines, is_update, is_ok, is_change, changed_states, changes}
+use Rattle.spb_defs.specs.Step.{with_sample, reply_to, state_after, reply_of, changed_state, reply_read, state_after_read, reply, next_state}
+use Rattle.spb_defs.specs.Changes.{IsReached, state_after_lines, is_update, is_ok, is_change, changed_states, changes}
 
 -- ---- a line that is no change leaves a state whose samples are closed as it was
 
-closed_same : (s : State) → s.samples ≡ None → closed s ≡ s
+closed_same : (s : State) → s.samples ≡ None → with_samples_closed s ≡ s
 closed_same s none =
-    ap (λ (kept : Option (List (List ℕ))). record s { pivots = pivots_by s kept; samples = None }) none
+    ap (λ (kept : Option (List (List ℕ))). record s { pivots = pivots_after_sampling s kept; samples = None }) none
     ∙ ap (λ (kept : Option (List (List ℕ))). record s { samples = kept }) (sym none)
 
 sample_same : (samples : Option (List (List ℕ))) (object : List ℕ) → samples ≡ None → with_sample samples object ≡ samples
@@ -35,14 +35,14 @@ same_by_drop : (there : Bool) (t less : State) → is_ok (if there then Done els
 same_by_drop true t less no_change = absurd (cc)
 same_by_drop false t less no_change = refl
 
-same_by : (s : State) (c : Command) → s.samples ≡ None → (if is_update (Ok c) then is_ok (reply_to s c) else false) ≡ false → after s c ≡ s
-unfolding reply_of changed_by
+same_by : (s : State) (c : Command) → s.samples ≡ None → (if is_update (Ok c) then is_ok (reply_to s c) else false) ≡ false → state_after s c ≡ s
+unfolding reply_of changed_state
 same_by s (command.Sample object) none no_change = ap (λ (kept : Option (List (List ℕ))). record s { samples = kept }) (sample_same s.samples object none)
 same_by s (command.Add c id object) none no_change =
-    let t = closed s in
+    let t = with_samples_closed s in
     same_by_add (is_some (object_at t c id)) (is_full t) t (record t { members = with_object t.members c id object }) no_change ∙ closed_same s none
 same_by s (command.Discard c id) none no_change =
-    let t = closed s in
+    let t = with_samples_closed s in
     same_by_drop (is_some (object_at t c id)) t (record t { members = without_object t.members c id }) no_change ∙ closed_same s none
 same_by s (command.Get c id) none no_change = closed_same s none
 same_by s (command.Count c) none no_change = closed_same s none
@@ -50,12 +50,12 @@ same_by s (command.Range c r object) none no_change = closed_same s none
 same_by s (command.Near c k object) none no_change = closed_same s none
 same_by s (command.Join c d r) none no_change = closed_same s none
 
-same_by_text : (s : State) (read : Result Command What) → s.samples ≡ None → (if is_update read then is_ok (reply_read s read) else false) ≡ false → after_read s read ≡ s
+same_by_text : (s : State) (read : Result Command What) → s.samples ≡ None → (if is_update read then is_ok (reply_read s read) else false) ≡ false → state_after_read s read ≡ s
 same_by_text s (Ok c) none no_change = same_by s c none no_change
 same_by_text s (Err failed) none no_change = refl
 
-same : (s : State) (l : Line) → s.samples ≡ None → is_change s l ≡ false → next s l ≡ s
-unfolding reply next
+same : (s : State) (l : Line) → s.samples ≡ None → is_change s l ≡ false → next_state s l ≡ s
+unfolding reply next_state
 same s (line.Text text) none no_change = same_by_text s (command_of s.space text) none no_change
 same s line.Long none no_change = refl
 same s line.End none no_change = refl
@@ -71,23 +71,23 @@ stays_by_drop : (there : Bool) (t less : State) → t.samples ≡ None → less.
 stays_by_drop true t less none still = still
 stays_by_drop false t less none still = none
 
-stays_by : (s : State) (c : Command) → s.samples ≡ None → (after s c).samples ≡ None
-unfolding changed_by
+stays_by : (s : State) (c : Command) → s.samples ≡ None → (state_after s c).samples ≡ None
+unfolding changed_state
 stays_by s (command.Sample object) none = sample_same s.samples object none ∙ none
-stays_by s (command.Add c id object) none = let t = closed s in stays_by_add (is_some (object_at t c id)) (is_full t) t (record t { members = with_object t.members c id object }) refl refl
-stays_by s (command.Discard c id) none = let t = closed s in stays_by_drop (is_some (object_at t c id)) t (record t { members = without_object t.members c id }) refl refl
+stays_by s (command.Add c id object) none = let t = with_samples_closed s in stays_by_add (is_some (object_at t c id)) (is_full t) t (record t { members = with_object t.members c id object }) refl refl
+stays_by s (command.Discard c id) none = let t = with_samples_closed s in stays_by_drop (is_some (object_at t c id)) t (record t { members = without_object t.members c id }) refl refl
 stays_by s (command.Get c id) none = refl
 stays_by s (command.Count c) none = refl
 stays_by s (command.Range c r object) none = refl
 stays_by s (command.Near c k object) none = refl
 stays_by s (command.Join c d r) none = refl
 
-stays_by_text : (s : State) (read : Result Command What) → s.samples ≡ None → (after_read s read).samples ≡ None
+stays_by_text : (s : State) (read : Result Command What) → s.samples ≡ None → (state_after_read s read).samples ≡ None
 stays_by_text s (Ok c) none = stays_by s c none
 stays_by_text s (Err failed) none = none
 
-stays : (s : State) (l : Line) → s.samples ≡ None → (next s l).samples ≡ None
-unfolding next
+stays : (s : State) (l : Line) → s.samples ≡ None → (next_state s l).samples ≡ None
+unfolding next_state
 stays s (line.Text text) none = stays_by_text s (command_of s.space text) none
 stays s line.Long none = none
 stays s line.End none = none
@@ -102,16 +102,16 @@ contains_more x xs t h = let inside = h.1 in (suc h.0, omega arith, h.2)
 
 -- ---- from the lines to the changes
 
-to_changes : (lines : List Line) (s : State) (many : ℕ) → s.samples ≡ None → Contains (s ∷ changed_states s lines) (after_lines s (take many lines))
+to_changes : (lines : List Line) (s : State) (many : ℕ) → s.samples ≡ None → Contains (s ∷ changed_states s lines) (state_after_lines s (take many lines))
 to_changes [] s zero none = contains_first s []
 to_changes [] s (suc many) none = contains_first s []
 to_changes (l ∷ lines) s zero none = contains_first s (changed_states s (l ∷ lines))
-to_changes (l ∷ lines) s (suc many) none = by_change (is_change s l) refl (to_changes lines (next s l) many (stays s l none))
+to_changes (l ∷ lines) s (suc many) none = by_change (is_change s l) refl (to_changes lines (next_state s l) many (stays s l none))
   where
-    by_change : (b : Bool) → is_change s l ≡ b → Contains (next s l ∷ changed_states (next s l) lines) (after_lines (next s l) (take many lines)) →
-        Contains (s ∷ (if b then next s l ∷ changed_states (next s l) lines else changed_states (next s l) lines)) (after_lines (next s l) (take many lines))
-    by_change true is rest = contains_more s (next s l ∷ changed_states (next s l) lines) (after_lines (next s l) (take many lines)) rest
-    by_change false is rest = subst (λ (t : State). Contains (t ∷ changed_states (next s l) lines) (after_lines (next s l) (take many lines))) (same s l none is) rest
+    by_change : (b : Bool) → is_change s l ≡ b → Contains (next_state s l ∷ changed_states (next_state s l) lines) (state_after_lines (next_state s l) (take many lines)) →
+        Contains (s ∷ (if b then next_state s l ∷ changed_states (next_state s l) lines else changed_states (next_state s l) lines)) (state_after_lines (next_state s l) (take many lines))
+    by_change true is rest = contains_more s (next_state s l ∷ changed_states (next_state s l) lines) (state_after_lines (next_state s l) (take many lines)) rest
+    by_change false is rest = subst (λ (t : State). Contains (t ∷ changed_states (next_state s l) lines) (state_after_lines (next_state s l) (take many lines))) (same s l none is) rest
 
 pub reached_changes : (s : State) (script : List ℕ) (t : State) → s.samples ≡ None → IsReached s (lines_of LINE_LIMIT script) t → Contains (changes s script) t
 reached_changes s script t none r = subst (Contains (changes s script)) (sym r.is) (to_changes (lines_of LINE_LIMIT script) s r.many none)
@@ -121,7 +121,7 @@ reached_changes s script t none r = subst (Contains (changes s script)) (sym r.i
 reached_now : (s : State) (lines : List Line) (t : State) → s ≡ t → IsReached s lines t
 reached_now s lines t e = record { many = 0; within = omega arith; is = sym e }
 
-reached_later : (s : State) (l : Line) (lines : List Line) (t : State) → IsReached (next s l) lines t → IsReached s (l ∷ lines) t
+reached_later : (s : State) (l : Line) (lines : List Line) (t : State) → IsReached (next_state s l) lines t → IsReached s (l ∷ lines) t
 reached_later s l lines t r = let within = r.within in record { many = suc r.many; within = omega arith; is = r.is }
 
 to_lines : (lines : List Line) (s t : State) → Contains (s ∷ changed_states s lines) t → IsReached s lines t
@@ -129,11 +129,11 @@ to_lines [] s t (zero, inside, is) = reached_now s [] t is
 to_lines [] s t (suc k, inside, is) = absurd (omega arith)
 to_lines (l ∷ lines) s t (zero, inside, is) = reached_now s (l ∷ lines) t is
 to_lines (l ∷ lines) s t (suc k, inside, is) =
-    by_change (is_change s l) k inside is (λ h. reached_later s l lines t (to_lines lines (next s l) t h))
+    by_change (is_change s l) k inside is (λ h. reached_later s l lines t (to_lines lines (next_state s l) t h))
   where
-    by_change : (b : Bool) (k : ℕ) → suc k < suc (length (if b then next s l ∷ changed_states (next s l) lines else changed_states (next s l) lines))
-        → get_or (if b then next s l ∷ changed_states (next s l) lines else changed_states (next s l) lines) k t ≡ t
-        → (Contains (next s l ∷ changed_states (next s l) lines) t → IsReached s (l ∷ lines) t) → IsReached s (l ∷ lines) t
+    by_change : (b : Bool) (k : ℕ) → suc k < suc (length (if b then next_state s l ∷ changed_states (next_state s l) lines else changed_states (next_state s l) lines))
+        → get_or (if b then next_state s l ∷ changed_states (next_state s l) lines else changed_states (next_state s l) lines) k t ≡ t
+        → (Contains (next_state s l ∷ changed_states (next_state s l) lines) t → IsReached s (l ∷ lines) t) → IsReached s (l ∷ lines) t
     by_change true k inside is later = later (k, omega arith, is)
     by_change false k inside is later = later (suc k, omega arith, is)
 

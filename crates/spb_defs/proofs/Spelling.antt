@@ -19,7 +19,7 @@ use Rattle.spb_defs.specs.declared.Asked.TheVariants.{Mem, Make, Run, Check, Tri
 use Rattle.spb_defs.specs.declared.TheConstants.{PIVOT_LIMIT, MEMORY_CAP}
 use Rattle.spb_defs.specs.Numbers.{at_least, at_most, number_of, number_within}
 use Rattle.spb_defs.specs.NumberLaws.{IsPlain, number_of-plain, number_of-some, at_most-some, number_within-decimal, decimal-number_within}
-use Rattle.spb_defs.specs.Words.{fitting, parameter_in, space_with_one, space_with_two, space_in, without_pivots, with_pivots, setup_in, mem_in, names_file, curve_in, positive_in, make_in, file_alone, trial_in, asked_by, asked_of, kind_of, parameters_of, curve_word, Spells}
+use Rattle.spb_defs.specs.Words.{checked_space, parameter_in, space_with_one, space_with_two, space_in, without_pivots, with_pivots, setup_in, mem_in, names_file, curve_in, positive_in, make_in, file_alone, trial_in, asked_by, asked_of, kind_of, parameters_of, curve_word, AreWordsFor}
 
 -- ---- what was read in turn
 
@@ -83,8 +83,8 @@ parameter-read n small = decimal-number_within 4294967295 n small (omega (arith,
 
 -- ---- spaces
 
-fitting-some : (space s : Space) → fitting space ≡ Some s → IsTrue (fits s) × (space ≡ s)
-fitting-some space s e =
+checked_space-some : (space s : Space) → checked_space space ≡ Some s → IsTrue (fits s) × (space ≡ s)
+checked_space-some space s e =
     let parts = if-some (fits space) (Some space) s e in
     let same : space ≡ s = some_is parts.1 in (subst (λ x. IsTrue (fits x)) same parts.0, same)
 
@@ -94,8 +94,8 @@ IsSpelled kind parameters s = IsTrue (fits s) × (kind ≡ kind_of s) × (parame
 
 with-one : (make : ℕ → Space) (kind first : List ℕ) (s : Space) → ((n : ℕ) → kind ≡ kind_of (make n)) → ((n : ℕ) → parameters_of (make n) ≡ decimal n ∷ []) → space_with_one make first ≡ Some s → IsSpelled kind (first ∷ []) s
 with-one make kind first s kinds shown e =
-    let n = then-some (λ n. fitting (make n)) (parameter_in first) s e in
-    let made = fitting-some (make n.0) s n.2 in
+    let n = then-some (λ n. checked_space (make n)) (parameter_in first) s e in
+    let made = checked_space-some (make n.0) s n.2 in
     let word : first ≡ decimal n.0 = (number_within-decimal 4294967295 n.0 first n.1).0 in (
       made.0,
       kinds n.0 ∙ ap kind_of made.1,
@@ -104,9 +104,9 @@ with-one make kind first s kinds shown e =
 
 with-two : (make : ℕ → ℕ → Space) (kind first second : List ℕ) (s : Space) → ((m n : ℕ) → kind ≡ kind_of (make m n)) → ((m n : ℕ) → parameters_of (make m n) ≡ decimal m ∷ decimal n ∷ []) → space_with_two make first second ≡ Some s → IsSpelled kind (first ∷ second ∷ []) s
 with-two make kind first second s kinds shown e =
-    let m = then-some (λ m. option_and_then (λ n. fitting (make m n)) (parameter_in second)) (parameter_in first) s e in
-    let n = then-some (λ n. fitting (make m.0 n)) (parameter_in second) s m.2 in
-    let made = fitting-some (make m.0 n.0) s n.2 in
+    let m = then-some (λ m. option_and_then (λ n. checked_space (make m n)) (parameter_in second)) (parameter_in first) s e in
+    let n = then-some (λ n. checked_space (make m.0 n)) (parameter_in second) s m.2 in
+    let made = checked_space-some (make m.0 n.0) s n.2 in
     let one : first ≡ decimal m.0 = (number_within-decimal 4294967295 m.0 first m.1).0 in
     let two : second ≡ decimal n.0 = (number_within-decimal 4294967295 n.0 second n.1).0 in (
       made.0,
@@ -127,16 +127,16 @@ space-spelled kind (first ∷ second ∷ []) s e =
     (either (bytes_eq kind (codes "l1")) (space_with_two L1 first second) (if bytes_eq kind (codes "linf") then space_with_two LInf first second else (if bytes_eq kind (codes "sets") then space_with_two Sets first second else None)) s e)
 space-spelled kind (first ∷ second ∷ third ∷ rest) s e = absurd (none-some s e)
 
-fitting-itself : (s : Space) → IsTrue (fits s) → fitting s ≡ Some s
-fitting-itself s h = ap (λ b. if b then Some s else None) h
+checked_space-itself : (s : Space) → IsTrue (fits s) → checked_space s ≡ Some s
+checked_space-itself s h = ap (λ b. if b then Some s else None) h
 
 one-read : (make : ℕ → Space) (n : ℕ) → n ≤ 4294967295 → IsTrue (fits (make n)) → space_with_one make (decimal n) ≡ Some (make n)
-one-read make n small h = ap (option_and_then (λ n. fitting (make n))) (parameter-read n small) ∙ fitting-itself (make n) h
+one-read make n small h = ap (option_and_then (λ n. checked_space (make n))) (parameter-read n small) ∙ checked_space-itself (make n) h
 
 two-read : (make : ℕ → ℕ → Space) (m n : ℕ) → m ≤ 4294967295 → n ≤ 4294967295 → IsTrue (fits (make m n)) → space_with_two make (decimal m) (decimal n) ≡ Some (make m n)
 two-read make m n few small h =
-    ap (option_and_then (λ m. option_and_then (λ n. fitting (make m n)) (parameter_in (decimal n)))) (parameter-read m few)
-    ∙ ap (option_and_then (λ n. fitting (make m n))) (parameter-read n small) ∙ fitting-itself (make m n) h
+    ap (option_and_then (λ m. option_and_then (λ n. checked_space (make m n)) (parameter_in (decimal n)))) (parameter-read m few)
+    ∙ ap (option_and_then (λ n. checked_space (make m n))) (parameter-read n small) ∙ checked_space-itself (make m n) h
 
 factor : (m n : ℕ) → 1 ≤ m → m * n ≤ 4294967295 → n ≤ 4294967295
 factor m n some product = let more : n ≤ n * m = le-mul_of_pos_right n some in let same : n * m ≡ m * n = mul_comm n m in omega (arith, more, same, product)
@@ -217,20 +217,20 @@ alone-spelled asked (file ∷ more ∷ rest) a e = absurd (none-some a e)
 
 -- ---- what each program is asked
 
-mem-spelled : (words : List (List ℕ)) (a : Asked) → mem_in words ≡ Some a → Spells (codes "mem" ∷ words) a
+mem-spelled : (words : List (List ℕ)) (a : Asked) → mem_in words ≡ Some a → AreWordsFor (codes "mem" ∷ words) a
 mem-spelled [] a e = absurd (none-some a e)
 mem-spelled (kind ∷ parameters) a e =
     let setup = map-some Mem (setup_in kind parameters) a e in
     let spelled = setup-spelled kind parameters setup.0 setup.1 in
     let named : codes "mem" ∷ kind ∷ parameters ≡ codes "mem" ∷ kind_of setup.0.space ∷ parameters = ap (λ k. codes "mem" ∷ k ∷ parameters) spelled.2 in
-    subst (Spells (codes "mem" ∷ kind ∷ parameters)) setup.2 (
+    subst (AreWordsFor (codes "mem" ∷ kind ∷ parameters)) setup.2 (
       spelled.0,
       spelled.1,
       ⊎_elim (λ h. inl (h.0, named ∙ ap (λ ps. codes "mem" ∷ kind_of setup.0.space ∷ ps) h.1))
           (λ h. inr (named ∙ ap (λ ps. codes "mem" ∷ kind_of setup.0.space ∷ ps) h)) spelled.3,
     )
 
-make-spelled : (words : List (List ℕ)) (a : Asked) → make_in words ≡ Some a → Spells (codes "make" ∷ words) a
+make-spelled : (words : List (List ℕ)) (a : Asked) → make_in words ≡ Some a → AreWordsFor (codes "make" ∷ words) a
 make-spelled [] a e = absurd (none-some a e)
 make-spelled (w ∷ []) a e = absurd (none-some a e)
 make-spelled (w ∷ x ∷ []) a e = absurd (none-some a e)
@@ -249,9 +249,9 @@ make-spelled (file ∷ curve ∷ pivots ∷ cap ∷ kind ∷ parameters) a e =
     ap (λ w. codes "make" ∷ file ∷ w ∷ pivots ∷ cap ∷ kind ∷ parameters) (curve-spelled curve c.0 c.1)
     ∙ ap₂ (λ v w. codes "make" ∷ file ∷ curve_word c.0 ∷ v ∷ w ∷ kind ∷ parameters) few.0 room.0
     ∙ ap₂ (λ k ps. codes "make" ∷ file ∷ curve_word c.0 ∷ decimal p.0 ∷ decimal n.0 ∷ k ∷ ps) space.1 space.2 in
-    subst (Spells (codes "make" ∷ file ∷ curve ∷ pivots ∷ cap ∷ kind ∷ parameters)) s.2 (space.0, few.1, few.2, room.1, room.2, (file, named.0, words))
+    subst (AreWordsFor (codes "make" ∷ file ∷ curve ∷ pivots ∷ cap ∷ kind ∷ parameters)) s.2 (space.0, few.1, few.2, room.1, room.2, (file, named.0, words))
 
-trial-spelled : (words : List (List ℕ)) (a : Asked) → trial_in words ≡ Some a → Spells (codes "trial" ∷ words) a
+trial-spelled : (words : List (List ℕ)) (a : Asked) → trial_in words ≡ Some a → AreWordsFor (codes "trial" ∷ words) a
 trial-spelled [] a e = absurd (none-some a e)
 trial-spelled (w ∷ []) a e = absurd (none-some a e)
 trial-spelled (w ∷ x ∷ []) a e = absurd (none-some a e)
@@ -261,23 +261,23 @@ trial-spelled (file ∷ seed ∷ count ∷ []) a e =
     let n = map-some (λ n. Trial s.0 n) (positive_in MEMORY_CAP count) a s.2 in
     let one = seed-spelled seed s.0 s.1 in
     let many = positive-spelled MEMORY_CAP n.0 count n.1 in
-    subst (Spells (codes "trial" ∷ file ∷ seed ∷ count ∷ [])) n.2 (one.1, many.1, many.2, (file, named.0, ap₂ (λ v w. codes "trial" ∷ file ∷ v ∷ w ∷ []) one.0 many.0))
+    subst (AreWordsFor (codes "trial" ∷ file ∷ seed ∷ count ∷ [])) n.2 (one.1, many.1, many.2, (file, named.0, ap₂ (λ v w. codes "trial" ∷ file ∷ v ∷ w ∷ []) one.0 many.0))
 trial-spelled (w ∷ x ∷ y ∷ z ∷ rest) a e = absurd (none-some a e)
 
-run-spelled : (words : List (List ℕ)) (a : Asked) → file_alone Run words ≡ Some a → Spells (codes "run" ∷ words) a
+run-spelled : (words : List (List ℕ)) (a : Asked) → file_alone Run words ≡ Some a → AreWordsFor (codes "run" ∷ words) a
 run-spelled words a e =
     let h = alone-spelled Run words a e in
-    subst (Spells (codes "run" ∷ words)) h.0 (h.1.0, h.1.1, ap (λ ws. codes "run" ∷ ws) h.1.2)
+    subst (AreWordsFor (codes "run" ∷ words)) h.0 (h.1.0, h.1.1, ap (λ ws. codes "run" ∷ ws) h.1.2)
 
-check-spelled : (words : List (List ℕ)) (a : Asked) → file_alone Check words ≡ Some a → Spells (codes "check" ∷ words) a
+check-spelled : (words : List (List ℕ)) (a : Asked) → file_alone Check words ≡ Some a → AreWordsFor (codes "check" ∷ words) a
 check-spelled words a e =
     let h = alone-spelled Check words a e in
-    subst (Spells (codes "check" ∷ words)) h.0 (h.1.0, h.1.1, ap (λ ws. codes "check" ∷ ws) h.1.2)
+    subst (AreWordsFor (codes "check" ∷ words)) h.0 (h.1.0, h.1.1, ap (λ ws. codes "check" ∷ ws) h.1.2)
 
-by-name : (name known : List ℕ) (words : List (List ℕ)) (a : Asked) → bytes_eq name known ≡ true → Spells (known ∷ words) a → Spells (name ∷ words) a
-by-name name known words a e h = subst (λ n. Spells (n ∷ words) a) (sym (word-is name known e)) h
+by-name : (name known : List ℕ) (words : List (List ℕ)) (a : Asked) → bytes_eq name known ≡ true → AreWordsFor (known ∷ words) a → AreWordsFor (name ∷ words) a
+by-name name known words a e h = subst (λ n. AreWordsFor (n ∷ words) a) (sym (word-is name known e)) h
 
-asked-spelled : (name : List ℕ) (words : List (List ℕ)) (a : Asked) → asked_by name words ≡ Some a → Spells (name ∷ words) a
+asked-spelled : (name : List ℕ) (words : List (List ℕ)) (a : Asked) → asked_by name words ≡ Some a → AreWordsFor (name ∷ words) a
 asked-spelled name words a e =
     let trial = if bytes_eq name (codes "trial") then trial_in words else None in
     let check = if bytes_eq name (codes "check") then file_alone Check words else trial in
@@ -293,7 +293,7 @@ asked-spelled name words a e =
     (either (bytes_eq name (codes "make")) (make_in words) run a r))
     (either (bytes_eq name (codes "mem")) (mem_in words) make a e)
 
-spelled : (words : List (List ℕ)) (a : Asked) → asked_of words ≡ Some a → Spells words a
+spelled : (words : List (List ℕ)) (a : Asked) → asked_of words ≡ Some a → AreWordsFor words a
 unfolding asked_of
 spelled [] a e = absurd (none-some a e)
 spelled (name ∷ words) a e = asked-spelled name words a e
@@ -303,7 +303,7 @@ spelled (name ∷ words) a e = asked-spelled name words a e
 named-read : (file : List ℕ) (o : Option Asked) → IsTrue (names_file file) → (if names_file file then o else None) ≡ o
 named-read file o h = ap (λ b. if b then o else None) h
 
-read : (words : List (List ℕ)) (a : Asked) → Spells words a → asked_of words ≡ Some a
+read : (words : List (List ℕ)) (a : Asked) → AreWordsFor words a → asked_of words ≡ Some a
 unfolding asked_of
 read words (Mem setup) (fit, few, inl (none, is)) =
     ap asked_of is ∙ ap (option_map Mem) (plain-read setup.space fit) ∙ ap (λ n. Some (Mem (record { space = setup.space; pivots = n }))) (sym none)
@@ -321,5 +321,5 @@ read words (Trial seed count) (small, one, few, (file, named, is)) =
     ∙ ap (option_and_then (λ s. option_map (λ n. Trial s n) (positive_in MEMORY_CAP (decimal count)))) (seed-read seed small)
     ∙ ap (option_map (λ n. Trial seed n)) (positive-read MEMORY_CAP count one few (omega (arith, few)))
 
-pub both_ways : (words : List (List ℕ)) (a : Asked) → (asked_of words ≡ Some a) ↔ Spells words a
+pub both_ways : (words : List (List ℕ)) (a : Asked) → (asked_of words ≡ Some a) ↔ AreWordsFor words a
 both_ways words a = (spelled words a, read words a)

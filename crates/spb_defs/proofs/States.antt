@@ -17,15 +17,15 @@ use Rattle.spb_edge.specs.declared.reader.Line.TheVariants as line
 use Rattle.spb_defs.specs.declared.Command.{Command}
 use Rattle.spb_defs.specs.declared.Command.TheVariants as command
 use Rattle.spb_defs.specs.declared.What.{What}
-use Rattle.spb_defs.specs.State.{Key, key_cmp, State, IsMemberKey, IsState, AreSamples, Members, empty_in_memory, empty_in_file, closed, pivots_by, object_at, is_full, with_object, without_object}
+use Rattle.spb_defs.specs.State.{Key, key_cmp, State, IsMemberKey, IsState, AreSamples, Members, empty_in_memory, empty_in_file, with_samples_closed, pivots_after_sampling, object_at, is_full, with_object, without_object}
 use Rattle.spb_defs.specs.Grammar.{command_of}
 use Rattle.spb_edge.specs.Lines.{lines_of}
-use Rattle.spb_defs.specs.Changes.{IsReached, after_lines}
-use Rattle.spb_defs.specs.Step.{with_sample, after, changed_by, after_read, next}
+use Rattle.spb_defs.specs.Changes.{IsReached, state_after_lines}
+use Rattle.spb_defs.specs.Step.{with_sample, state_after, changed_state, state_after_read, next_state}
 use Rattle.spb_defs.specs.declared.TheConstants.{LINE_LIMIT, SAMPLE_LIMIT, PIVOT_LIMIT}
 use Rattle.spb_defs.specs.declared.CurveKind.{CurveKind}
 use Rattle.spb_defs.specs.ChoiceLaws.{length-chosen_samples, All-chosen_samples}
-use Rattle.spb_defs.specs.CommandText.{IsProper}
+use Rattle.spb_defs.specs.CommandText.{IsWellFormed}
 use Rattle.spb_defs.specs.CommandLaws.{read_line}
 use Rattle.metrics_builtin.specs.Space.{fits, IsValid, dist}
 use Rattle.std.proofs.Math.Nat.{min-le_left, min-le_right}
@@ -168,24 +168,24 @@ in_file space curve pivots cap fit valid few = record {
 -- ---- samples
 
 -- the samples are closed
-closed_pivots : (s : State) (kept : Option (List (List ℕ))) → AreSamples s.space kept → All (IsValid s.space) s.pivots → All (IsValid s.space) (pivots_by s kept)
+closed_pivots : (s : State) (kept : Option (List (List ℕ))) → AreSamples s.space kept → All (IsValid s.space) s.pivots → All (IsValid s.space) (pivots_after_sampling s kept)
 closed_pivots s None samples pivots = pivots
 closed_pivots s (Some kept) samples pivots =
     All-chosen_samples (IsValid s.space) (dist s.space) kept (min s.wanted (length kept)) (min-le_right s.wanted (length kept)) samples.0
 
-closed_few : (s : State) (kept : Option (List (List ℕ))) → length s.pivots ≤ s.wanted → length (pivots_by s kept) ≤ s.wanted
+closed_few : (s : State) (kept : Option (List (List ℕ))) → length s.pivots ≤ s.wanted → length (pivots_after_sampling s kept) ≤ s.wanted
 closed_few s None few = few
 closed_few s (Some kept) few =
     let many = length-chosen_samples (dist s.space) kept (min s.wanted (length kept)) in
     let low = min-le_left s.wanted (length kept) in
     omega arith
 
-closed_in_file : (s : State) (curve : Option CurveKind) (kept : Option (List (List ℕ))) → IfSome curve (λ c. (kept ≡ None) × (s.wanted ≡ length s.pivots)) → IfSome curve (λ c. (◌≡◌ {A = Option (List (List ℕ))} None None) × (s.wanted ≡ length (pivots_by s kept)))
+closed_in_file : (s : State) (curve : Option CurveKind) (kept : Option (List (List ℕ))) → IfSome curve (λ c. (kept ≡ None) × (s.wanted ≡ length s.pivots)) → IfSome curve (λ c. (◌≡◌ {A = Option (List (List ℕ))} None None) × (s.wanted ≡ length (pivots_after_sampling s kept)))
 closed_in_file s None kept h = tt
 closed_in_file s (Some curve) None h = (refl, h.1)
 closed_in_file s (Some curve) (Some kept) h = absurd (let e = h.0 in cc)
 
-state_closed : (s : State) → IsState s → IsState (closed s)
+state_closed : (s : State) → IsState s → IsState (with_samples_closed s)
 state_closed s is = record {
   in_range = is.in_range;
   order = is.order;
@@ -289,30 +289,30 @@ by_drop false s c id none is = is
 
 -- ---- lines
 
-by_command : (s : State) (c : Command) → IsProper s.space c → IsState s → IsState (after s c)
-unfolding changed_by
+by_command : (s : State) (c : Command) → IsWellFormed s.space c → IsState s → IsState (state_after s c)
+unfolding changed_state
 by_command s (command.Sample object) proper is = state_sampled s object proper is
-by_command s (command.Add c id object) proper is = let t = closed s in by_add (is_some (object_at t c id)) (is_full t) t c id object refl refl proper (state_closed s is)
-by_command s (command.Discard c id) proper is = let t = closed s in by_drop (is_some (object_at t c id)) t c id refl (state_closed s is)
+by_command s (command.Add c id object) proper is = let t = with_samples_closed s in by_add (is_some (object_at t c id)) (is_full t) t c id object refl refl proper (state_closed s is)
+by_command s (command.Discard c id) proper is = let t = with_samples_closed s in by_drop (is_some (object_at t c id)) t c id refl (state_closed s is)
 by_command s (command.Get c id) proper is = state_closed s is
 by_command s (command.Count c) proper is = state_closed s is
 by_command s (command.Range c r object) proper is = state_closed s is
 by_command s (command.Near c k object) proper is = state_closed s is
 by_command s (command.Join c d r) proper is = state_closed s is
 
-by_text : (s : State) (text : List ℕ) (read : Result Command What) → command_of s.space text ≡ read → IsState s → IsState (after_read s read)
+by_text : (s : State) (text : List ℕ) (read : Result Command What) → command_of s.space text ≡ read → IsState s → IsState (state_after_read s read)
 by_text s text (Ok c) reads is = by_command s c (read_line s.space text c is.in_range reads).0 is
 by_text s text (Err failed) reads is = is
 
-pub by_line : (s : State) (l : Line) → IsState s → IsState (next s l)
-unfolding next
+pub by_line : (s : State) (l : Line) → IsState s → IsState (next_state s l)
+unfolding next_state
 by_line s (line.Text text) is = by_text s text (command_of s.space text) refl is
 by_line s line.Long is = is
 by_line s line.End is = is
 
-by_lines : (lines : List Line) (s : State) → IsState s → IsState (after_lines s lines)
+by_lines : (lines : List Line) (s : State) → IsState s → IsState (state_after_lines s lines)
 by_lines [] s is = is
-by_lines (l ∷ lines) s is = by_lines lines (next s l) (by_line s l is)
+by_lines (l ∷ lines) s is = by_lines lines (next_state s l) (by_line s l is)
 
 pub reached : (s : State) (script : List ℕ) (t : State) → IsState s → IsReached s (lines_of LINE_LIMIT script) t → IsState t
 reached s script t is r = subst IsState (sym r.is) (by_lines (take r.many (lines_of LINE_LIMIT script)) s is)

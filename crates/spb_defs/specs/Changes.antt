@@ -11,22 +11,22 @@ use Rattle.spb_defs.specs.declared.Reply.TheVariants.{Done, Exists, Absent, Full
 use Rattle.spb_defs.specs.declared.What.{What}
 use Rattle.spb_defs.specs.State.{State}
 use Rattle.spb_defs.specs.Grammar.{command_of}
-use Rattle.spb_defs.specs.Step.{reply, next}
+use Rattle.spb_defs.specs.Step.{reply, next_state}
 
 -- the state after some lines
-abbrev pub after_lines : State → List Line → State
-after_lines s [] = s
-after_lines s (line ∷ lines) = after_lines (next s line) lines
+abbrev pub state_after_lines : State → List Line → State
+state_after_lines s [] = s
+state_after_lines s (line ∷ lines) = state_after_lines (next_state s line) lines
 
 -- the last state of a script
 abbrev pub last_state : State → List ℕ → State
-last_state s script = after_lines s (lines_of LINE_LIMIT script)
+last_state s script = state_after_lines s (lines_of LINE_LIMIT script)
 
 -- the state is one that the first lines of these lead to
 pub record IsReached (s : State) (lines : List Line) (t : State) : Type 0 where
   pub many : ℕ
   pub within : many ≤ length lines
-  pub is : t ≡ after_lines s (take many lines)
+  pub is : t ≡ state_after_lines s (take many lines)
 
 -- ---- changes
 
@@ -66,7 +66,7 @@ is_change s line.End = false
 -- the states after the changes among the lines
 abbrev pub changed_states : State → List Line → List State
 changed_states s [] = []
-changed_states s (line ∷ lines) = if is_change s line then next s line ∷ changed_states (next s line) lines else changed_states (next s line) lines
+changed_states s (line ∷ lines) = if is_change s line then next_state s line ∷ changed_states (next_state s line) lines else changed_states (next_state s line) lines
 
 -- the first state, and the one after each change of the script
 abbrev pub changes : State → List ℕ → List State

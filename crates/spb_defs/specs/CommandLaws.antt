@@ -21,7 +21,7 @@ use Rattle.spb_defs.specs.Grammar.{◌>>=◌, collection_in, id_in, radius_in, r
 use Rattle.spb_defs.specs.NumberLaws.{number_within-decimal, decimal-number_within}
 use Rattle.spb_defs.specs.TextLaws.{IsFree, IsFree-decimal, split_joined}
 use Rattle.spb_defs.specs.ObjectTexts.{IsFree-text_of, read_text, text_read}
-use Rattle.spb_defs.specs.CommandText.{IsProper, words_of, command_text}
+use Rattle.spb_defs.specs.CommandText.{IsWellFormed, words_of, command_text}
 
 -- ---- words that are read in turn
 
@@ -123,7 +123,7 @@ four_same : (a b c d w x y z : List ℕ) → a ≡ w → b ≡ x → c ≡ y →
 four_same a b c d w x y z e f g h = cc
 
 abbrev Means : Space → List (List ℕ) → Command → Type 0
-Means space words command = IsProper space command × (words ≡ words_of space command)
+Means space words command = IsWellFormed space command × (words ≡ words_of space command)
 
 is_name : (name word : List ℕ) → bytes_eq name word ≡ true → name ≡ word
 is_name name word same = (bytes_eq-Decides name word).0 same
@@ -239,7 +239,7 @@ words_mean space (name ∷ first ∷ second ∷ third ∷ []) command fit e =
     by_name P command (bytes_eq name (codes "join")) (join_in first second third) (Err what.Command) e (λ same e. join_means space name first second third command same e) (no_command (P command) command))))
 words_mean space (a ∷ b ∷ c ∷ d ∷ f ∷ rest) command fit e = absurd (cc)
 
-pub read_line : (space : Space) (line : List ℕ) (command : Command) → IsTrue (fits space) → command_of space line ≡ Ok command → IsProper space command × (line ≡ command_text space command)
+pub read_line : (space : Space) (line : List ℕ) (command : Command) → IsTrue (fits space) → command_of space line ≡ Ok command → IsWellFormed space command × (line ≡ command_text space command)
 unfolding command_of
 read_line space line command fit e =
     let means = words_mean space (slice_split (λ b. b == 32) line) command fit e in
@@ -255,7 +255,7 @@ free_word (x ∷ xs) free = All-cons (λ x. (x == 32) ≡ false) x xs free.0 (fr
 free_number : (n : ℕ) → n < 2 ^ 32 → IsFree 32 (decimal n)
 free_number n small = IsFree-decimal 32 n (omega (arith, small)) (omega (arith, small))
 
-command_again : (space : Space) (command : Command) → IsTrue (fits space) → IsProper space command → command_in space (words_of space command) ≡ Ok command
+command_again : (space : Space) (command : Command) → IsTrue (fits space) → IsWellFormed space command → command_in space (words_of space command) ≡ Ok command
 unfolding sample_in add_in drop_in get_in count_in range_in near_in join_in
 command_again space (Sample object) fit p = read_one (object_in space (text_of space object)) Sample object (object_again space object fit p)
 command_again space (Add c id object) fit p =
@@ -273,7 +273,7 @@ command_again space (Join c d r) fit p =
 free_collection : (c : ℕ) → c < 4 → IsFree 32 (decimal c)
 free_collection c low = free_number c (omega (arith, low))
 
-split_again : (space : Space) (command : Command) → IsTrue (fits space) → IsProper space command → slice_split (λ b. b == 32) (command_text space command) ≡ words_of space command
+split_again : (space : Space) (command : Command) → IsTrue (fits space) → IsWellFormed space command → slice_split (λ b. b == 32) (command_text space command) ≡ words_of space command
 split_again space (Sample object) fit p =
     split_joined 32 (words_of space (Sample object)) (omega arith)
     (free_word (codes "sample") (refl, (refl, (refl, (refl, (refl, (refl, tt)))))), (IsFree-text_of space object fit p, tt))
@@ -300,6 +300,6 @@ split_again space (Join c d r) fit p =
     split_joined 32 (words_of space (Join c d r)) (omega arith)
     (free_word (codes "join") (refl, (refl, (refl, (refl, tt)))), (free_collection c p.0, (free_collection d p.1, (free_number r p.2, tt))))
 
-pub line_read : (space : Space) (line : List ℕ) (command : Command) → IsTrue (fits space) → IsProper space command → line ≡ command_text space command → command_of space line ≡ Ok command
+pub line_read : (space : Space) (line : List ℕ) (command : Command) → IsTrue (fits space) → IsWellFormed space command → line ≡ command_text space command → command_of space line ≡ Ok command
 unfolding command_of
 line_read space line command fit p e = ap (command_of space) e ∙ ap (command_in space) (split_again space command fit p) ∙ command_again space command fit p

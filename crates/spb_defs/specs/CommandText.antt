@@ -9,15 +9,15 @@ use Rattle.spb_defs.specs.declared.Command.{Command}
 use Rattle.spb_defs.specs.declared.Command.TheVariants.{Sample, Add, Discard, Get, Count, Range, Near, Join}
 
 -- the collections are among the four, the id or the number is in its range, and the object is the space's
-abbrev pub IsProper : Space → Command → Type 0
-IsProper space (Sample object) = IsValid space object
-IsProper space (Add c id object) = (c < 4) × (id < 2 ^ 32) × IsValid space object
-IsProper space (Discard c id) = (c < 4) × (id < 2 ^ 32)
-IsProper space (Get c id) = (c < 4) × (id < 2 ^ 32)
-IsProper space (Count c) = c < 4
-IsProper space (Range c r object) = (c < 4) × (r < 2 ^ 32) × IsValid space object
-IsProper space (Near c k object) = (c < 4) × ((1 ≤ k) × (k ≤ 65536)) × IsValid space object
-IsProper space (Join c d r) = (c < 4) × (d < 4) × (r < 2 ^ 32)
+abbrev pub IsWellFormed : Space → Command → Type 0
+IsWellFormed space (Sample object) = IsValid space object
+IsWellFormed space (Add c id object) = (c < 4) × (id < 2 ^ 32) × IsValid space object
+IsWellFormed space (Discard c id) = (c < 4) × (id < 2 ^ 32)
+IsWellFormed space (Get c id) = (c < 4) × (id < 2 ^ 32)
+IsWellFormed space (Count c) = c < 4
+IsWellFormed space (Range c r object) = (c < 4) × (r < 2 ^ 32) × IsValid space object
+IsWellFormed space (Near c k object) = (c < 4) × ((1 ≤ k) × (k ≤ 65536)) × IsValid space object
+IsWellFormed space (Join c d r) = (c < 4) × (d < 4) × (r < 2 ^ 32)
 
 -- its name, the collections, the id or the number, the object
 abbrev pub words_of : Space → Command → List (List ℕ)

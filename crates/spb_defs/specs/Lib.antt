@@ -20,10 +20,10 @@ pub mod ReplyText
 pub mod Step
 pub mod Play
 pub mod Changes
-pub mod Measures
+pub mod MetricOf
 pub mod Words
-pub mod Rows
-pub use Rattle.spb_edge.specs.Told
+pub mod Scripts
+pub use Rattle.spb_edge.specs.Known
 pub use Rattle.spb_edge.specs.Lines
 pub use Rattle.metrics_builtin.specs.Space
 pub use Rattle.metrics_builtin.specs.Vectors

@@ -7,7 +7,7 @@ use Rattle.hex.specs.Hex.{encode_lower, decode_sized}
 use Rattle.hex.specs.declared.error.FromHexError.{FromHexError}
 use Rattle.metrics_builtin.specs.declared.Space.{Space}
 use Rattle.metrics_builtin.specs.declared.Space.TheVariants.{L1, LInf, Hamming, Sets}
-use Rattle.metrics_builtin.specs.Vectors.{components, spelled}
+use Rattle.metrics_builtin.specs.Vectors.{components, object_of_components}
 use Rattle.spb_defs.specs.Numbers.{number_within}
 
 -- ---- the text of an object
@@ -42,7 +42,7 @@ numbers_in bound text = numbers_within bound (slice_split (λ b. b == 44) text)
 
 -- the object of these components, where there are `dim`
 abbrev pub vector_with : ℕ → List ℕ → Option (List ℕ)
-vector_with dim numbers = if length numbers == dim then Some (spelled numbers) else None
+vector_with dim numbers = if length numbers == dim then Some (object_of_components numbers) else None
 
 -- each number is below the next
 abbrev pub is_rising : List ℕ → Bool
@@ -51,7 +51,7 @@ is_rising _ = true
 
 -- the object of these elements, where they rise and are at most `most`
 abbrev pub set_with : ℕ → List ℕ → Option (List ℕ)
-set_with most elements = if nat_le (length elements) most && is_rising elements then Some (spelled elements) else None
+set_with most elements = if nat_le (length elements) most && is_rising elements then Some (object_of_components elements) else None
 
 -- the bytes that the text was decoded to, where it is their text
 abbrev pub string_with : List ℕ → Result (List ℕ) FromHexError → Option (List ℕ)

@@ -4,13 +4,13 @@ use Rattle.spb_edge.specs.declared.reader.Line.{Line}
 use Rattle.spb_edge.specs.Lines.{lines_of, ended_lines}
 use Rattle.spb_defs.specs.declared.TheConstants.{LINE_LIMIT}
 use Rattle.spb_defs.specs.State.{State}
-use Rattle.spb_defs.specs.Step.{reply, next}
+use Rattle.spb_defs.specs.Step.{reply, next_state}
 use Rattle.spb_defs.specs.ReplyText.{reply_text}
 
 -- the replies to the lines from a state on
 abbrev pub play_lines : State → List Line → List ℕ
 play_lines s [] = []
-play_lines s (line ∷ lines) = reply_text s.space (reply s line) ++ play_lines (next s line) lines
+play_lines s (line ∷ lines) = reply_text s.space (reply s line) ++ play_lines (next_state s line) lines
 
 -- the replies to a script from a state on
 abbrev pub play : State → List ℕ → List ℕ

@@ -41,20 +41,20 @@ join_text pairs evals sure =
     ++ flat_map pair_text pairs
 
 -- the line without its LF
-abbrev pub said : Space → Reply → List ℕ
-said space Done = codes "ok"
-said space Exists = codes "exists"
-said space Absent = codes "absent"
-said space Full = codes "full"
-said space Curve = codes "curve"
-said space Late = codes "late"
-said space (Object object) = codes "object " ++ text_of space object
-said space (Count many) = codes "count " ++ decimal many
-said space (Range ids evals sure) = range_text ids evals sure
-said space (Near rows evals) = near_text rows evals
-said space (Join pairs evals sure) = join_text pairs evals sure
-said space (Bad failed) = codes "bad " ++ name_of failed
-said space Long = codes "long"
+abbrev pub line_without_lf : Space → Reply → List ℕ
+line_without_lf space Done = codes "ok"
+line_without_lf space Exists = codes "exists"
+line_without_lf space Absent = codes "absent"
+line_without_lf space Full = codes "full"
+line_without_lf space Curve = codes "curve"
+line_without_lf space Late = codes "late"
+line_without_lf space (Object object) = codes "object " ++ text_of space object
+line_without_lf space (Count many) = codes "count " ++ decimal many
+line_without_lf space (Range ids evals sure) = range_text ids evals sure
+line_without_lf space (Near rows evals) = near_text rows evals
+line_without_lf space (Join pairs evals sure) = join_text pairs evals sure
+line_without_lf space (Bad failed) = codes "bad " ++ name_of failed
+line_without_lf space Long = codes "long"
 
 unfoldable pub reply_text : Space → Reply → List ℕ
-reply_text space reply = said space reply ++ 10 ∷ []
+reply_text space reply = line_without_lf space reply ++ 10 ∷ []

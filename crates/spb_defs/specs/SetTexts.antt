@@ -7,8 +7,8 @@ use Rattle.std.proofs.lemmas.Bool.{and_parts}
 use Rattle.std.proofs.lemmas.Bool.Decides.{nat_tests}
 use Rattle.std.proofs.lemmas.Option.{cond_some}
 use Rattle.std.proofs.lemmas.Slice.Eq.{bytes_eq-Decides}
-use Rattle.metrics_builtin.specs.Vectors.{components, spelled}
-use Rattle.metrics_builtin.specs.VectorLaws.{components-spelled}
+use Rattle.metrics_builtin.specs.Vectors.{components, object_of_components}
+use Rattle.metrics_builtin.specs.VectorLaws.{components-object_of_components}
 use Rattle.metrics_builtin.specs.Sets.{IsSubset, IsRisingWithin}
 use Rattle.metrics_builtin.specs.SetLaws.{rising-tail, components-IsSubset}
 use Rattle.spb_defs.specs.ObjectText.{numbers_text, set_text, numbers_in, is_rising, set_with, set_of_text}
@@ -42,7 +42,7 @@ none_within : (universe : ℕ) → All (λ x. x < universe) []
 none_within universe = λ k d h. absurd (omega arith)
 
 empty_set : (universe most : ℕ) → IsSubset universe most []
-unfolding spelled
+unfolding object_of_components
 empty_set universe most = record { elements = []; set = record { rising = none_rising; within = none_within universe; few = omega arith }; spelling = refl }
 
 pub text_of_none : set_text (components []) ≡ codes "-"
@@ -59,12 +59,12 @@ pub record IsOf (most : ℕ) (read : Option (List ℕ)) (object : List ℕ) : Ty
   pub is : read ≡ Some numbers
   pub rising : IsStrictlyIncreasing numbers
   pub few : length numbers ≤ most
-  pub bytes : spelled numbers ≡ object
+  pub bytes : object_of_components numbers ≡ object
 
 pub of : (most : ℕ) (read : Option (List ℕ)) (object : List ℕ) → option_and_then (set_with most) read ≡ Some object → IsOf most read object
 of most None object e = absurd (cc)
 of most (Some ns) object e =
-    let test = cond_some (nat_le (length ns) most && is_rising ns) (spelled ns) object e in
+    let test = cond_some (nat_le (length ns) most && is_rising ns) (object_of_components ns) object e in
     let parts = and_parts (nat_le (length ns) most) (is_rising ns) test.0 in
     let low : nat_le (length ns) most ≡ true = parts.0 in
     record { numbers = ns; is = refl; rising = rising_from ns parts.1; few = grind (arith, nat_tests); bytes = test.1 }
@@ -74,7 +74,7 @@ read_some universe most text object one small parts =
     let read : AreRead (universe - 1) text parts.numbers = numbers_in-text (universe - 1) text parts.numbers parts.is in
     let inside : All (λ n. n < universe) parts.numbers = λ k d h. let l : get_or parts.numbers k d ≤ universe - 1 = read.within k d h in omega arith in
     let below : All (λ n. n < 2 ^ 32) parts.numbers = λ k d h. let l : get_or parts.numbers k d ≤ universe - 1 = read.within k d h in omega arith in
-    let numbers : components object ≡ parts.numbers = ap components (sym parts.bytes) ∙ components-spelled parts.numbers below in (
+    let numbers : components object ≡ parts.numbers = ap components (sym parts.bytes) ∙ components-object_of_components parts.numbers below in (
       record { elements = parts.numbers; set = record { rising = parts.rising; within = inside; few = parts.few }; spelling = sym parts.bytes },
       read.text_is ∙ text_of_some parts.numbers read.some ∙ ap set_text (sym numbers),
     )
@@ -110,8 +110,8 @@ no_dash bound ns small low e =
 at_most_last : (universe : ℕ) (ns : List ℕ) → All (λ n. n < universe) ns → All (λ n. n ≤ universe - 1) ns
 at_most_last universe ns h = λ k d inside. let low : get_or ns k d < universe = h k d inside in omega arith
 
-elements_read : (universe most : ℕ) (ns : List ℕ) → universe < 2 ^ 32 → IsRisingWithin universe most ns → set_of_text universe most (set_text ns) ≡ Some (spelled ns)
-unfolding set_of_text spelled
+elements_read : (universe most : ℕ) (ns : List ℕ) → universe < 2 ^ 32 → IsRisingWithin universe most ns → set_of_text universe most (set_text ns) ≡ Some (object_of_components ns)
+unfolding set_of_text object_of_components
 elements_read universe most [] small v = refl
 elements_read universe most (n ∷ ns) small v =
     let low : All (λ k. k ≤ universe - 1) (n ∷ ns) = at_most_last universe (n ∷ ns) v.within in
@@ -122,7 +122,7 @@ elements_read universe most (n ∷ ns) small v =
     let test : (nat_le (length (n ∷ ns)) most && is_rising (n ∷ ns)) ≡ true = ap (λ b. b && is_rising (n ∷ ns)) many ∙ rising_test (n ∷ ns) v.rising in
     ap (λ (b : Bool). cond b (Some []) (option_and_then (set_with most) (numbers_in (universe - 1) (numbers_text (n ∷ ns))))) dash
     ∙ ap (option_and_then (set_with most)) read
-    ∙ ap (λ (b : Bool). cond b (Some (spelled (n ∷ ns))) None) test
+    ∙ ap (λ (b : Bool). cond b (Some (object_of_components (n ∷ ns))) None) test
 
 pub set_read : (universe most : ℕ) (text object : List ℕ) → universe < 2 ^ 32 → IsSubset universe most object → text ≡ set_text (components object) → set_of_text universe most text ≡ Some object
 set_read universe most text object small v e =

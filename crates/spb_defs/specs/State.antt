@@ -12,7 +12,7 @@ use Rattle.spb_defs.specs.declared.TheConstants.{MEMORY_CAP, SAMPLE_LIMIT, PIVOT
 use Rattle.spb_defs.specs.declared.CurveKind.{CurveKind}
 use Rattle.spb_defs.specs.declared.CurveKind.TheVariants.{Z, Hilbert}
 use Rattle.spb_defs.specs.Choice.{chosen_samples}
-use Rattle.spb_defs.specs.Scans.{Row}
+use Rattle.spb_defs.specs.Scans.{Entry}
 
 -- a collection and an id
 abbrev pub Key : Type 0
@@ -48,19 +48,19 @@ empty_in_file space curve pivots cap =
     record { space = space; wanted = length pivots; pivots = pivots; curve = Some curve; cap = cap; samples = None; members = [] }
 
 -- whether pairs may be asked for: not over the Hilbert curve
-abbrev pub joins : Option CurveKind → Bool
-joins None = true
-joins (Some Z) = true
-joins (Some Hilbert) = false
+abbrev pub allows_joins : Option CurveKind → Bool
+allows_joins None = true
+allows_joins (Some Z) = true
+allows_joins (Some Hilbert) = false
 
 -- the pivots once the samples are closed: those chosen from the samples, as many as are wanted or as there are
-abbrev pub pivots_by : State → Option (List (List ℕ)) → List (List ℕ)
-pivots_by s None = s.pivots
-pivots_by s (Some kept) = chosen_samples (dist s.space) kept (min s.wanted (length kept))
+abbrev pub pivots_after_sampling : State → Option (List (List ℕ)) → List (List ℕ)
+pivots_after_sampling s None = s.pivots
+pivots_after_sampling s (Some kept) = chosen_samples (dist s.space) kept (min s.wanted (length kept))
 
 -- the state with its samples closed
-abbrev pub closed : State → State
-closed s = record s { pivots = pivots_by s s.samples; samples = None }
+abbrev pub with_samples_closed : State → State
+with_samples_closed s = record s { pivots = pivots_after_sampling s s.samples; samples = None }
 
 -- the object under a key
 abbrev pub object_at : State → ℕ → ℕ → Option (List ℕ)
@@ -79,8 +79,8 @@ abbrev pub without_object : Members → ℕ → ℕ → Members
 without_object members c id = remove_entry (is_at (key_cmp (c, id))) members
 
 -- how many members the collection has
-abbrev pub count_of : Members → ℕ → ℕ
-count_of members c = count_by (λ member. member.0.0 == c) members
+abbrev pub member_count : Members → ℕ → ℕ
+member_count members c = count_by (λ member. member.0.0 == c) members
 
 -- the samples, while they are kept: objects of the space, and no more than there may be
 abbrev pub AreSamples : Space → Option (List (List ℕ)) → Type 0
@@ -107,9 +107,9 @@ pub record IsState (s : State) : Type 0 where
   pub in_file : IfSome s.curve (λ curve. (s.samples ≡ None) × (s.wanted ≡ length s.pivots))
 
 -- the row of a member, where it is of the collection
-abbrev pub row_of : ℕ → Key × List ℕ → Option Row
-row_of c member = if member.0.0 == c then Some (member.0.1, member.1) else None
+abbrev pub entry_in : ℕ → Key × List ℕ → Option Entry
+entry_in c member = if member.0.0 == c then Some (member.0.1, member.1) else None
 
 -- the rows of a collection, by rising id
-unfoldable pub rows_of : Members → ℕ → List Row
-rows_of members c = filter_map (row_of c) members
+unfoldable pub entries_in : Members → ℕ → List Entry
+entries_in members c = filter_map (entry_in c) members

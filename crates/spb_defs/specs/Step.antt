@@ -13,8 +13,8 @@ use Rattle.spb_defs.specs.declared.What.{What}
 use Rattle.spb_defs.specs.declared.RangeAnswer.{RangeAnswer}
 use Rattle.spb_defs.specs.declared.NearAnswer.{NearAnswer}
 use Rattle.spb_defs.specs.declared.JoinAnswer.{JoinAnswer}
-use Rattle.spb_defs.specs.State.{State, closed, joins, object_at, is_full, with_object, without_object, count_of, rows_of}
-use Rattle.spb_defs.specs.Scans.{considered, range_answer, near_answer, join_answer}
+use Rattle.spb_defs.specs.State.{State, with_samples_closed, allows_joins, object_at, is_full, with_object, without_object, member_count, entries_in}
+use Rattle.spb_defs.specs.Scans.{considered_pairs, range_answer, near_answer, join_answer}
 use Rattle.spb_defs.specs.Grammar.{command_of}
 
 -- ---- samples
@@ -32,15 +32,15 @@ with_sample (Some kept) object = if nat_le SAMPLE_LIMIT (length kept) then Some 
 -- ---- commands
 
 -- the state that a command acts on: its samples are closed, unless the command is a sample
-abbrev pub acted_on : State → Command → State
-acted_on s (command.Sample object) = s
-acted_on s (command.Add c id object) = closed s
-acted_on s (command.Discard c id) = closed s
-acted_on s (command.Get c id) = closed s
-acted_on s (command.Count c) = closed s
-acted_on s (command.Range c r object) = closed s
-acted_on s (command.Near c k object) = closed s
-acted_on s (command.Join c d r) = closed s
+abbrev pub acting_state : State → Command → State
+acting_state s (command.Sample object) = s
+acting_state s (command.Add c id object) = with_samples_closed s
+acting_state s (command.Discard c id) = with_samples_closed s
+acting_state s (command.Get c id) = with_samples_closed s
+acting_state s (command.Count c) = with_samples_closed s
+acting_state s (command.Range c r object) = with_samples_closed s
+acting_state s (command.Near c k object) = with_samples_closed s
+acting_state s (command.Join c d r) = with_samples_closed s
 
 abbrev pub get_reply : Option (List ℕ) → Reply
 get_reply None = Absent
@@ -61,31 +61,31 @@ reply_of t (command.Sample object) = sample_reply t.samples
 reply_of t (command.Add c id object) = if is_some (object_at t c id) then Exists else (if is_full t then Full else Done)
 reply_of t (command.Discard c id) = if is_some (object_at t c id) then Done else Absent
 reply_of t (command.Get c id) = get_reply (object_at t c id)
-reply_of t (command.Count c) = Count (count_of t.members c)
-reply_of t (command.Range c r object) = range_reply (range_answer (dist t.space) t.pivots (rows_of t.members c) object r)
-reply_of t (command.Near c k object) = near_reply (near_answer (dist t.space) t.pivots (rows_of t.members c) object k)
+reply_of t (command.Count c) = Count (member_count t.members c)
+reply_of t (command.Range c r object) = range_reply (range_answer (dist t.space) t.pivots (entries_in t.members c) object r)
+reply_of t (command.Near c k object) = near_reply (near_answer (dist t.space) t.pivots (entries_in t.members c) object k)
 reply_of t (command.Join c d r) =
-    if joins t.curve then join_reply (join_answer (dist t.space) t.pivots (considered (c == d) (rows_of t.members c) (rows_of t.members d)) r)
+    if allows_joins t.curve then join_reply (join_answer (dist t.space) t.pivots (considered_pairs (c == d) (entries_in t.members c) (entries_in t.members d)) r)
     else Curve
 
 -- that state after the command
-unfoldable pub changed_by : State → Command → State
-changed_by t (command.Sample object) = record t { samples = with_sample t.samples object }
-changed_by t (command.Add c id object) =
+unfoldable pub changed_state : State → Command → State
+changed_state t (command.Sample object) = record t { samples = with_sample t.samples object }
+changed_state t (command.Add c id object) =
     if is_some (object_at t c id) then t else (if is_full t then t else record t { members = with_object t.members c id object })
-changed_by t (command.Discard c id) = if is_some (object_at t c id) then record t { members = without_object t.members c id } else t
-changed_by t (command.Get c id) = t
-changed_by t (command.Count c) = t
-changed_by t (command.Range c r object) = t
-changed_by t (command.Near c k object) = t
-changed_by t (command.Join c d r) = t
+changed_state t (command.Discard c id) = if is_some (object_at t c id) then record t { members = without_object t.members c id } else t
+changed_state t (command.Get c id) = t
+changed_state t (command.Count c) = t
+changed_state t (command.Range c r object) = t
+changed_state t (command.Near c k object) = t
+changed_state t (command.Join c d r) = t
 
 -- the reply to a command, and the state after it
 abbrev pub reply_to : State → Command → Reply
-reply_to s asked = reply_of (acted_on s asked) asked
+reply_to s asked = reply_of (acting_state s asked) asked
 
-abbrev pub after : State → Command → State
-after s asked = changed_by (acted_on s asked) asked
+abbrev pub state_after : State → Command → State
+state_after s asked = changed_state (acting_state s asked) asked
 
 -- ---- lines
 
@@ -94,9 +94,9 @@ abbrev pub reply_read : State → Result Command What → Reply
 reply_read s (Ok read) = reply_to s read
 reply_read s (Err failed) = Bad failed
 
-abbrev pub after_read : State → Result Command What → State
-after_read s (Ok read) = after s read
-after_read s (Err failed) = s
+abbrev pub state_after_read : State → Result Command What → State
+state_after_read s (Ok read) = state_after s read
+state_after_read s (Err failed) = s
 
 -- the reply to a line; End is no line, and what stands for it is never asked
 unfoldable pub reply : State → Line → Reply
@@ -105,10 +105,10 @@ reply s line.Long = Long
 reply s line.End = Long
 
 -- the state after a line
-unfoldable pub next : State → Line → State
-next s (line.Text text) = after_read s (command_of s.space text)
-next s line.Long = s
-next s line.End = s
+unfoldable pub next_state : State → Line → State
+next_state s (line.Text text) = state_after_read s (command_of s.space text)
+next_state s line.Long = s
+next_state s line.End = s
 
 -- ---- distances
 

@@ -3,10 +3,10 @@ use Rattle.std.proofs.Common.{◌≡◌, ℕ, ◌^◌, ◌<◌, ◌≤◌, ◌==
 use Rattle.std.specs.Prelude.{option_and_then, All}
 use Rattle.std.proofs.lemmas.Bool.Decides.{nat_tests}
 use Rattle.std.proofs.lemmas.Option.{cond_some}
-use Rattle.metrics_builtin.specs.Vectors.{components, spelled, IsVector}
-use Rattle.metrics_builtin.specs.VectorLaws.{components-spelled, components-IsVector}
+use Rattle.metrics_builtin.specs.Vectors.{components, object_of_components, IsVector}
+use Rattle.metrics_builtin.specs.VectorLaws.{components-object_of_components, components-IsVector}
 use Rattle.spb_defs.specs.ObjectText.{numbers_text, numbers_in, vector_with, vector_of_text}
-use Rattle.metrics_builtin.specs.VectorLaws.{IsVector-spelled}
+use Rattle.metrics_builtin.specs.VectorLaws.{IsVector-object_of_components}
 use Rattle.std.specs.List.{slice_split}
 use Rattle.spb_defs.specs.TextLaws.{All-numbers_within}
 use Rattle.spb_defs.specs.TextLaws.{AreRead, numbers_in-text, text-numbers_in, IsFree, IsFree-numbers_text}
@@ -16,10 +16,10 @@ use Rattle.spb_defs.specs.TextLaws.{AreRead, numbers_in-text, text-numbers_in, I
 valid_numbers : (dim most : ℕ) (words : List (List ℕ)) (read : Option (List ℕ)) (object : List ℕ) → ((ns : List ℕ) → read ≡ Some ns → All (λ n. n ≤ most) ns) → option_and_then (vector_with dim) read ≡ Some object → IsVector dim most object
 valid_numbers dim most words None object h e = absurd (cc)
 valid_numbers dim most words (Some ns) object h e =
-    let test = cond_some (length ns == dim) (spelled ns) object e in
+    let test = cond_some (length ns == dim) (object_of_components ns) object e in
     let long : (length ns == dim) ≡ true = test.0 in
     let many : length ns ≡ dim = grind (arith, nat_tests) in
-    subst (IsVector dim most) test.1 (IsVector-spelled dim most ns many (h ns refl))
+    subst (IsVector dim most) test.1 (IsVector-object_of_components dim most ns many (h ns refl))
 
 pub vector_of_text-valid : (dim most : ℕ) (text object : List ℕ) → vector_of_text dim most text ≡ Some object → IsVector dim most object
 unfolding vector_of_text
@@ -33,11 +33,11 @@ vector_of_text-valid dim most text object e =
 record IsOf (dim : ℕ) (read : Option (List ℕ)) (object : List ℕ) : Type 0 where
   numbers : List ℕ
   is : read ≡ Some numbers
-  bytes : spelled numbers ≡ object
+  bytes : object_of_components numbers ≡ object
 
 of : (dim : ℕ) (read : Option (List ℕ)) (object : List ℕ) → option_and_then (vector_with dim) read ≡ Some object → IsOf dim read object
 of dim None object e = absurd (cc)
-of dim (Some ns) object e = record { numbers = ns; is = refl; bytes = (cond_some (length ns == dim) (spelled ns) object e).1 }
+of dim (Some ns) object e = record { numbers = ns; is = refl; bytes = (cond_some (length ns == dim) (object_of_components ns) object e).1 }
 
 pub read_vector : (dim most : ℕ) (text object : List ℕ) → most < 2 ^ 32 → vector_of_text dim most text ≡ Some object → IsVector dim most object × (text ≡ numbers_text (components object))
 unfolding vector_of_text
@@ -45,7 +45,7 @@ read_vector dim most text object small e =
     let parts = of dim (numbers_in most text) object e in
     let read : AreRead most text parts.numbers = numbers_in-text most text parts.numbers parts.is in
     let below : All (λ n. n < 2 ^ 32) parts.numbers = λ k d h. let l : get_or parts.numbers k d ≤ most = read.within k d h in omega arith in
-    let numbers : components object ≡ parts.numbers = ap components (sym parts.bytes) ∙ components-spelled parts.numbers below in
+    let numbers : components object ≡ parts.numbers = ap components (sym parts.bytes) ∙ components-object_of_components parts.numbers below in
     (vector_of_text-valid dim most text object e, read.text_is ∙ ap numbers_text (sym numbers))
 
 pub vector_read : (dim most : ℕ) (text object : List ℕ) → 1 ≤ dim → most < 2 ^ 32 → IsVector dim most object → text ≡ numbers_text (components object) → vector_of_text dim most text ≡ Some object
@@ -56,7 +56,7 @@ vector_read dim most text object some small v e =
     let text_is : text ≡ numbers_text v.numbers = e ∙ ap numbers_text numbers in
     let read : numbers_in most text ≡ Some v.numbers = ap (numbers_in most) text_is ∙ text-numbers_in most v.numbers (omega arith) (omega arith) v.within in
     let test : (length v.numbers == dim) ≡ true = grind (arith, nat_tests) in
-    ap (option_and_then (vector_with dim)) read ∙ ap (λ (b : Bool). cond b (Some (spelled v.numbers)) None) test ∙ ap (λ (o : List ℕ). Some o) (sym v.spelling)
+    ap (option_and_then (vector_with dim)) read ∙ ap (λ (b : Bool). cond b (Some (object_of_components v.numbers)) None) test ∙ ap (λ (o : List ℕ). Some o) (sym v.spelling)
 
 pub IsFree-vector : (dim most : ℕ) (object : List ℕ) → most < 2 ^ 32 → IsVector dim most object → IsFree 32 (numbers_text (components object))
 IsFree-vector dim most object small v =

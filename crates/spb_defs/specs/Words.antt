@@ -16,8 +16,8 @@ use Rattle.spb_defs.specs.Numbers.{at_least, number_of, number_within}
 -- ---- spaces
 
 -- the space, if its numbers are in range
-abbrev pub fitting : Space → Option Space
-fitting space = if fits space then Some space else None
+abbrev pub checked_space : Space → Option Space
+checked_space space = if fits space then Some space else None
 
 -- a number of at most 32 bits
 abbrev pub parameter_in : List ℕ → Option ℕ
@@ -25,10 +25,10 @@ parameter_in word = number_within 4294967295 word
 
 -- the space with one number, and with two
 abbrev pub space_with_one : (ℕ → Space) → List ℕ → Option Space
-space_with_one make first = option_and_then (λ a. fitting (make a)) (parameter_in first)
+space_with_one make first = option_and_then (λ a. checked_space (make a)) (parameter_in first)
 
 abbrev pub space_with_two : (ℕ → ℕ → Space) → List ℕ → List ℕ → Option Space
-space_with_two make first second = option_and_then (λ a. option_and_then (λ b. fitting (make a b)) (parameter_in second)) (parameter_in first)
+space_with_two make first second = option_and_then (λ a. option_and_then (λ b. checked_space (make a b)) (parameter_in second)) (parameter_in first)
 
 -- the space of a kind and its parameters
 abbrev pub space_in : List ℕ → List (List ℕ) → Option Space
@@ -142,16 +142,16 @@ curve_word Z = codes "z"
 curve_word Hilbert = codes "hilbert"
 
 -- the words spell what is asked for: each number is in decimal, and a file's name is any word that can name one
-abbrev pub Spells : List (List ℕ) → Asked → Type 0
-Spells words (Mem setup) =
+abbrev pub AreWordsFor : List (List ℕ) → Asked → Type 0
+AreWordsFor words (Mem setup) =
     IsTrue (fits setup.space) × (setup.pivots ≤ PIVOT_LIMIT)
     × ((setup.pivots ≡ 0) × (words ≡ codes "mem" ∷ kind_of setup.space ∷ parameters_of setup.space)
     ⊎ (words ≡ codes "mem" ∷ kind_of setup.space ∷ (parameters_of setup.space ++ decimal setup.pivots ∷ [])))
-Spells words (Make curve pivots cap space) =
+AreWordsFor words (Make curve pivots cap space) =
     IsTrue (fits space) × (1 ≤ pivots) × (pivots ≤ PIVOT_LIMIT) × (1 ≤ cap) × (cap ≤ MEMORY_CAP)
     × ((file : List ℕ) × IsTrue (names_file file) × (words ≡ codes "make" ∷ file ∷ curve_word curve ∷ decimal pivots ∷ decimal cap ∷ kind_of space ∷ parameters_of space))
-Spells words Run = (file : List ℕ) × IsTrue (names_file file) × (words ≡ codes "run" ∷ file ∷ [])
-Spells words Check = (file : List ℕ) × IsTrue (names_file file) × (words ≡ codes "check" ∷ file ∷ [])
-Spells words (Trial seed count) =
+AreWordsFor words Run = (file : List ℕ) × IsTrue (names_file file) × (words ≡ codes "run" ∷ file ∷ [])
+AreWordsFor words Check = (file : List ℕ) × IsTrue (names_file file) × (words ≡ codes "check" ∷ file ∷ [])
+AreWordsFor words (Trial seed count) =
     (seed < 2 ^ 64) × (1 ≤ count) × (count ≤ MEMORY_CAP)
     × ((file : List ℕ) × IsTrue (names_file file) × (words ≡ codes "trial" ∷ file ∷ decimal seed ∷ decimal count ∷ []))

@@ -7,11 +7,11 @@ ghost use Rattle.metrics_builtin.specs.Space.{fits, IsValid};
 ghost use Rattle.spb_defs.specs.declared.TheConstants.{LINE_LIMIT, PIVOT_LIMIT};
 ghost use Rattle.spb_defs.specs.declared.Asked.{Asked};
 ghost use Rattle.spb_defs.specs.declared.CurveKind.{CurveKind};
-ghost use Rattle.spb_defs.specs.Words.{asked_of, Spells};
-ghost use Rattle.spb_defs.specs.State.{State, IsState, closed, empty_in_memory, empty_in_file};
+ghost use Rattle.spb_defs.specs.Words.{asked_of, AreWordsFor};
+ghost use Rattle.spb_defs.specs.State.{State, IsState, with_samples_closed, empty_in_memory, empty_in_file};
 ghost use Rattle.spb_defs.specs.Choice.{chosen_places};
 ghost use Rattle.spb_defs.specs.Farthest.{IsChoice};
-ghost use Rattle.spb_defs.specs.Step.{reply, next, IsRefusal, ClosesSamples};
+ghost use Rattle.spb_defs.specs.Step.{reply, next_state, IsRefusal, ClosesSamples};
 ghost use Rattle.spb_defs.specs.Changes.{IsReached, changes};
 
 use crate::{LINE_LIMIT, MEMORY_CAP, NEAR_LIMIT, PIVOT_LIMIT, SAMPLE_LIMIT};
@@ -30,8 +30,8 @@ pub fn limits()
 /// with its samples closed, and any other leaves the state as it was: a line that is too long or no command,
 /// and a sample. The call does nothing.
 pub fn refusals_change_nothing()
-    ensures command { (s : State) (line : Line) → IsRefusal (reply s line) → ClosesSamples s.space line → next s line ≡ closed s }
-    ensures other { (s : State) (line : Line) → IsRefusal (reply s line) → (ClosesSamples s.space line → ⊥) → next s line ≡ s }
+    ensures command { (s : State) (line : Line) → IsRefusal (reply s line) → ClosesSamples s.space line → next_state s line ≡ with_samples_closed s }
+    ensures other { (s : State) (line : Line) → IsRefusal (reply s line) → (ClosesSamples s.space line → ⊥) → next_state s line ≡ s }
 {}
 
 /// What holds of every state: it holds of an empty store in memory and of one in a file, each line keeps it,
@@ -40,7 +40,7 @@ pub fn states_are_kept()
     ensures in_memory { (space : Space) (wanted : ℕ) → IsTrue (fits space) → wanted ≤ PIVOT_LIMIT → IsState (empty_in_memory space wanted) }
     ensures in_file { (space : Space) (curve : CurveKind) (pivots : List (List ℕ)) (cap : ℕ) → IsTrue (fits space) → All (IsValid space) pivots
         → length pivots ≤ PIVOT_LIMIT → IsState (empty_in_file space curve pivots cap) }
-    ensures next { (s : State) (line : Line) → IsState s → IsState (next s line) }
+    ensures next { (s : State) (line : Line) → IsState s → IsState (next_state s line) }
     ensures reached { (s : State) (script : List ℕ) (t : State) → IsState s → IsReached s (lines_of LINE_LIMIT script) t → IsState t }
 {}
 
@@ -61,5 +61,5 @@ pub fn reached_states()
 
 /// The words of the program ask for what they spell, and for nothing else. The call does nothing.
 pub fn words_are_spelled()
-    ensures { (words : List (List ℕ)) (asked : Asked) → (asked_of words ≡ Some asked) ↔ Spells words asked }
+    ensures { (words : List (List ℕ)) (asked : Asked) → (asked_of words ≡ Some asked) ↔ AreWordsFor words asked }
 {}

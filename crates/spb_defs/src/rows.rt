@@ -7,7 +7,7 @@ ghost use Rattle.spb_defs.specs.declared.Asked.TheVariants.{Mem, Make, Run, Chec
 ghost use Rattle.spb_defs.specs.Words.{asked_of};
 ghost use Rattle.spb_defs.specs.declared.CurveKind.TheVariants.{Z, Hilbert};
 ghost use Rattle.spb_defs.specs.State.{empty_in_memory};
-ghost use Rattle.spb_defs.specs.Rows.{IsAnswered, AreAnswered, AreAnsweredWith, ClosesSampling, three_samples, thrice_ok, ended, plane, plane_in_file};
+ghost use Rattle.spb_defs.specs.Scripts.{IsAnswered, AreAnswered, AreAnsweredWith, ClosesSampling, three_samples, thrice_ok, with_lf, plane, plane_in_file};
 
 /// Scripts over points with two components from 0 to 255, without pivots.
 pub fn worked_rows()
@@ -36,9 +36,9 @@ pub fn worked_rows()
         (codes "add 0 1 0,0" ∷ codes "add 0 2 3,4" ∷ codes "add 1 1 1,1" ∷ codes "add 1 9 3,5" ∷ codes "join 0 1 3" ∷ codes "join 1 0 3" ∷ codes "join 0 1 8" ∷ codes "join 0 0 7" ∷ codes "join 0 2 x" ∷ [])
         (codes "ok" ∷ codes "ok" ∷ codes "ok" ∷ codes "ok" ∷ codes "join 2 evals 4 sure 0: 1-1 2-9" ∷ codes "join 2 evals 4 sure 0: 1-1 9-2" ∷ codes "join 4 evals 4 sure 0: 1-1 1-9 2-1 2-9" ∷ codes "join 1 evals 1 sure 0: 1-2" ∷ codes "bad number" ∷ []) }
     // 16385 bytes are too many, and 16384 are read.
-    ensures long { play plane (ended (replicate 16385 97) ++ replicate 16384 97) ≡ ended (codes "long") ++ ended (codes "bad command") }
+    ensures long { play plane (with_lf (replicate 16385 97) ++ replicate 16384 97) ≡ with_lf (codes "long") ++ with_lf (codes "bad command") }
     // No LF ends the last line.
-    ensures unended { play plane (codes "range 0 0 0,0") ≡ ended (codes "range 0 evals 0 sure 0:") }
+    ensures unended { play plane (codes "range 0 0 0,0") ≡ with_lf (codes "range 0 evals 0 sure 0:") }
 {}
 
 /// Scripts that begin with samples: which lines close them, and which don't.

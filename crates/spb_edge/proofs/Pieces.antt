@@ -4,16 +4,16 @@ use Rattle.std.specs.List.{between}
 use Rattle.std.proofs.lemmas.Slice.{between_to_end}
 use Rattle.std.proofs.Math.Seq.{take-add}
 use Rattle.std.proofs.lemmas.List.{take-append-drop, take_at, drop-drop}
-use Rattle.spb_edge.specs.Told.{told_then, told_then-append}
+use Rattle.spb_edge.specs.Known.{with_suffix, with_suffix-append}
 
 -- what was told, then a front of the bytes, then the first of those behind it
-pub told_then-more : (first now last : Option (List ℕ)) (bytes : List ℕ) (done n : ℕ)
-    → now ≡ told_then first (take done bytes) → last ≡ told_then now (take n (between done (length bytes) bytes))
-    → last ≡ told_then first (take (done + n) bytes)
-told_then-more first now last bytes done n before takes =
-    takes ∙ ap (λ t. told_then t (take n (between done (length bytes) bytes))) before
-    ∙ told_then-append first (take done bytes) (take n (between done (length bytes) bytes))
-    ∙ ap (told_then first) (ap (λ xs. take done bytes ++ take n xs) (between_to_end bytes done (length bytes) (omega arith)) ∙ sym (take-add done n bytes))
+pub with_suffix-more : (first now last : Option (List ℕ)) (bytes : List ℕ) (done n : ℕ)
+    → now ≡ with_suffix first (take done bytes) → last ≡ with_suffix now (take n (between done (length bytes) bytes))
+    → last ≡ with_suffix first (take (done + n) bytes)
+with_suffix-more first now last bytes done n before takes =
+    takes ∙ ap (λ t. with_suffix t (take n (between done (length bytes) bytes))) before
+    ∙ with_suffix-append first (take done bytes) (take n (between done (length bytes) bytes))
+    ∙ ap (with_suffix first) (ap (λ xs. take done bytes ++ take n xs) (between_to_end bytes done (length bytes) (omega arith)) ∙ sym (take-add done n bytes))
 
 -- a front that was copied into a buffer, and what is left behind it
 pub front_copied : (left bytes copied behind : List ℕ) (at count : ℕ) → left ≡ drop at bytes → copied ≡ take count left → length copied ≡ count

@@ -1,4 +1,4 @@
-pub mod Told
+pub mod Known
 pub mod Fault
 pub mod Source
 pub mod Sink

@@ -3,7 +3,7 @@ use Rattle.std.specs.Prelude.{◌≡◌, ℕ, Bool, List, length, min, if◌then
 use Rattle.std.specs.List.{list_any}
 use Rattle.spb_edge.specs.declared.source.Take.{Take}
 use Rattle.spb_edge.specs.declared.source.Take.TheVariants.{Got, End, Failed}
-use Rattle.spb_edge.specs.Fault.{counted}
+use Rattle.spb_edge.specs.Fault.{next_count}
 
 -- the bytes left, the most that a call gives, the numbers of the calls that fail, how many calls were
 -- made, and how many of them failed
@@ -24,7 +24,7 @@ pub record IsNewSource (source : SourceState) (bytes : List ℕ) (piece : ℕ) (
 
 -- whether the call fails that is made next
 abbrev pub fails_next : SourceState → Bool
-fails_next s = list_any (λ number. number == counted s.calls) s.failing
+fails_next s = list_any (λ number. number == next_count s.calls) s.failing
 
 -- what a call answers: a failure where its number is among those that fail, else as many bytes as fit
 -- the buffer and the piece, else the end
@@ -33,9 +33,9 @@ answer_of s room = if fails_next s then Failed
     else (if length s.left == 0 then End else Got (min (min (length s.left) s.piece) room))
 
 -- what stands after the answer: a call that fails is counted among the faults, and no other
-pub record Answers (old : SourceState) (room : ℕ) (answer : Take) (new : SourceState) : Type 0 where
+pub record AnswersTake (old : SourceState) (room : ℕ) (answer : Take) (new : SourceState) : Type 0 where
   pub answer_is : answer ≡ answer_of old room
-  pub one_call : new.calls ≡ counted old.calls
+  pub one_call : new.calls ≡ next_count old.calls
   pub same_piece : new.piece ≡ old.piece
   pub same_failing : new.failing ≡ old.failing
-  pub counts : new.faults ≡ (if fails_next old then counted old.faults else old.faults)
+  pub counts : new.faults ≡ (if fails_next old then next_count old.faults else old.faults)

@@ -1,24 +1,24 @@
 -- How a run of calls goes on, as far as the images are concerned that a crash may leave.
 use Rattle.std.proofs.Common.{inl, inr, ⊎_elim, ℕ, List, arith}
-use Rattle.spb_edge.specs.Crash.{Elapses, LeavesOnly}
+use Rattle.spb_edge.specs.Crash.{Elapses, CrashesLeaveOnly}
 
-module _ {D : Type 0} (moment : D → ℕ) (left_since : D → ℕ → List ℕ → Type 0) where
+module _ {D : Type 0} (moment : D → ℕ) (crash_states_since : D → ℕ → List ℕ → Type 0) where
   -- before the first call
-  pub started : (old : D) (P : List ℕ → Type 0) → ((c : List ℕ) → left_since old (moment old) c → P c) → LeavesOnly moment left_since old old P
+  pub started : (old : D) (P : List ℕ → Type 0) → ((c : List ℕ) → crash_states_since old (moment old) c → P c) → CrashesLeaveOnly moment crash_states_since old old P
   started old P here = record { later = omega arith; each = here; before = λ t c le left. inl left }
 
   -- one call more, after which a crash leaves what has P
-  pub goes_on : (old mid new : D) (P may_leave : List ℕ → Type 0) → LeavesOnly moment left_since old mid P
-      → Elapses (moment mid) (moment new) (left_since mid) (left_since new) may_leave
-      → ((c : List ℕ) → may_leave c → P c) → LeavesOnly moment left_since old new P
-  goes_on old mid new P may_leave so_far time here = record {
+  pub goes_on : (old mid new : D) (P crash_states : List ℕ → Type 0) → CrashesLeaveOnly moment crash_states_since old mid P
+      → Elapses (moment mid) (moment new) (crash_states_since mid) (crash_states_since new) crash_states
+      → ((c : List ℕ) → crash_states c → P c) → CrashesLeaveOnly moment crash_states_since old new P
+  goes_on old mid new P crash_states so_far time here = record {
     later = omega (arith, so_far.later, time.later);
     each = λ c left. ⊎_elim (so_far.each c) (here c) (time.nothing_else (moment old) c so_far.later left);
     before = λ t c le left. ⊎_elim (so_far.before t c le) (λ now. inr (here c now)) (time.nothing_else t c (omega (arith, le, so_far.later)) left);
   }
 
   -- what has P has Q
-  pub weaker : (old new : D) (P Q : List ℕ → Type 0) → ((c : List ℕ) → P c → Q c) → LeavesOnly moment left_since old new P → LeavesOnly moment left_since old new Q
+  pub weaker : (old new : D) (P Q : List ℕ → Type 0) → ((c : List ℕ) → P c → Q c) → CrashesLeaveOnly moment crash_states_since old new P → CrashesLeaveOnly moment crash_states_since old new Q
   weaker old new P Q of run = record {
     later = run.later;
     each = λ c left. of c (run.each c left);
@@ -26,7 +26,7 @@ module _ {D : Type 0} (moment : D → ℕ) (left_since : D → ℕ → List ℕ 
   }
 
   -- one run behind another
-  pub joined : (old mid new : D) (P : List ℕ → Type 0) → LeavesOnly moment left_since old mid P → LeavesOnly moment left_since mid new P → LeavesOnly moment left_since old new P
+  pub joined : (old mid new : D) (P : List ℕ → Type 0) → CrashesLeaveOnly moment crash_states_since old mid P → CrashesLeaveOnly moment crash_states_since mid new P → CrashesLeaveOnly moment crash_states_since old new P
   joined old mid new P first second = record {
     later = omega (arith, first.later, second.later);
     each = λ c left. ⊎_elim (first.each c) (λ has. has) (second.before (moment old) c first.later left);

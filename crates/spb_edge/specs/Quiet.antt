@@ -1,24 +1,24 @@
 -- A quiet stretch: calls that leave a disk, and what a crash may leave of it, as they were.
 use Rattle.std.proofs.Common.{◌≡◌, inl, inr, ⊎_elim, ℕ, Bool, List, IsTrue, refl, sym, ◌∙◌, subst, arith}
-use Rattle.spb_edge.specs.Crash.{Within, Elapses, LeavesOnly}
+use Rattle.spb_edge.specs.Crash.{Includes, Elapses, CrashesLeaveOnly}
 use Rattle.spb_edge.specs.Moments.{goes_on}
 
-module _ {D : Type 0} (told tells_crashes : D → Bool) (size_of : D → ℕ) (image : D → List ℕ)
-    (may_leave : D → List ℕ → Type 0) (moment : D → ℕ) (left_since : D → ℕ → List ℕ → Type 0) where
+module _ {D : Type 0} (is_known knows_crashes : D → Bool) (size_of : D → ℕ) (image : D → List ℕ)
+    (crash_states : D → List ℕ → Type 0) (moment : D → ℕ) (crash_states_since : D → ℕ → List ℕ → Type 0) where
   -- The length, the image where it is told, and the images that a crash may leave are the same; a crash
   -- since the first state could leave no others; and time goes on.
   pub record IsQuiet (old new : D) : Type 0 where
-    pub tells : told new ≡ told old
-    pub tells_crashes_too : tells_crashes new ≡ tells_crashes old
+    pub tells : is_known new ≡ is_known old
+    pub tells_crashes_too : knows_crashes new ≡ knows_crashes old
     pub length_is : size_of new ≡ size_of old
-    pub image_is : IsTrue (told old) → image new ≡ image old
-    pub no_more : Within (may_leave old) (may_leave new)
-    pub no_fewer : Within (may_leave new) (may_leave old)
-    pub since : Within (may_leave old) (left_since new (moment old))
-    pub time : Elapses (moment old) (moment new) (left_since old) (left_since new) (may_leave new)
+    pub image_is : IsTrue (is_known old) → image new ≡ image old
+    pub no_more : Includes (crash_states old) (crash_states new)
+    pub no_fewer : Includes (crash_states new) (crash_states old)
+    pub since : Includes (crash_states old) (crash_states_since new (moment old))
+    pub time : Elapses (moment old) (moment new) (crash_states_since old) (crash_states_since new) (crash_states new)
 
   -- a state and itself
-  pub quiet_same : (d : D) → Within (may_leave d) (left_since d (moment d)) → IsQuiet d d
+  pub quiet_same : (d : D) → Includes (crash_states d) (crash_states_since d (moment d)) → IsQuiet d d
   quiet_same d only_now = record {
     tells = refl;
     tells_crashes_too = refl;
@@ -49,6 +49,6 @@ module _ {D : Type 0} (told tells_crashes : D → Bool) (size_of : D → ℕ) (i
   }
 
   -- a run goes on over a quiet stretch
-  pub calmly : (old mid new : D) (P : List ℕ → Type 0) → LeavesOnly moment left_since old mid P → IsQuiet mid new
-      → ((c : List ℕ) → may_leave mid c → P c) → LeavesOnly moment left_since old new P
-  calmly old mid new P run quiet here = goes_on moment left_since old mid new P (may_leave new) run quiet.time (λ c now. here c (quiet.no_more c now))
+  pub calmly : (old mid new : D) (P : List ℕ → Type 0) → CrashesLeaveOnly moment crash_states_since old mid P → IsQuiet mid new
+      → ((c : List ℕ) → crash_states mid c → P c) → CrashesLeaveOnly moment crash_states_since old new P
+  calmly old mid new P run quiet here = goes_on moment crash_states_since old mid new P (crash_states new) run quiet.time (λ c now. here c (quiet.no_more c now))

@@ -10,8 +10,8 @@ use Rattle.spb_edge.specs.declared.reader.Scanned.TheVariants.{Ended, Open}
 use Rattle.spb_edge.specs.declared.memory.Memory.{Memory}
 use Rattle.spb_edge.specs.declared.reader.LineReader.{LineReader}
 use Rattle.spb_edge.specs.declared.source.Source.{Ghosts}
-use Rattle.spb_edge.specs.Told.{before_told}
-use Rattle.spb_edge.specs.Fault.{Rose}
+use Rattle.spb_edge.specs.Known.{with_prefix}
+use Rattle.spb_edge.specs.Fault.{HasRisen}
 use Rattle.spb_edge.specs.Lines.{HasNoLf, line_of, lines_of}
 
 module _ {S : Type 0} {G : Ghosts S} where
@@ -21,7 +21,7 @@ module _ {S : Type 0} {G : Ghosts S} where
 
   -- the bytes before the reader: the unread ones, and then what the source has left, where it tells
   abbrev pub rest : LineReader S G → Option (List ℕ)
-  rest reader = before_told (unread reader) (G.left reader.source.now)
+  rest reader = with_prefix (unread reader) (G.left reader.source.now)
 
   -- how many bytes the reader took from its source
   abbrev pub taken : LineReader S G → ℕ
@@ -42,7 +42,7 @@ module _ {S : Type 0} {G : Ghosts S} where
   -- a call took these bytes off the front of the rest: what was unread and then what it got from the
   -- source, as many as the count rose, are these bytes and then what is unread now
   pub record TakesOff (old new : LineReader S G) (bytes : List ℕ) : Type 0 where
-    pub front : rest old ≡ before_told bytes (rest new)
+    pub front : rest old ≡ with_prefix bytes (rest new)
     pub count : taken old + length bytes + length (unread new) ≡ taken new + length (unread old)
     pub got : (got : List ℕ) × (unread old ++ got ≡ bytes ++ unread new) × (taken new ≡ taken old + length got)
 
@@ -51,7 +51,7 @@ abbrev pub NothingLeft : Option (List ℕ) → Type 0
 NothingLeft rest = IfSome rest (λ bytes. bytes ≡ [])
 
 -- the reader may be asked: it took no more than the limit, and where the source has ended nothing is left
-pub record IsOpen {S : Type 0} {G : Ghosts S} (reader : LineReader S G) : Type 0 where
+pub record CanTakeLine {S : Type 0} {G : Ghosts S} (reader : LineReader S G) : Type 0 where
   pub total : taken reader ≤ 2 ^ 30
   pub ended : IsTrue (has_ended reader) → (unread reader ≡ []) × NothingLeft (rest reader)
 
@@ -63,11 +63,11 @@ IsLineAt limit line bytes left ended = (piece : List ℕ) × HasNoLf piece × (l
 
 -- the bytes that a call took off, by its answer. At an error they are the beginning of a line, without
 -- its LF.
-abbrev pub Spells : ℕ → Result Line EdgeError → List ℕ → Option (List ℕ) → Bool → Type 0
-Spells limit (Ok (Text text)) bytes left ended = IsLineAt limit (Text text) bytes left ended
-Spells limit (Ok Long) bytes left ended = IsLineAt limit Long bytes left ended
-Spells limit (Ok End) bytes left ended = (bytes ≡ []) × NothingLeft left × IsTrue ended
-Spells limit (Err e) bytes left ended = HasNoLf bytes
+abbrev pub IsTakenFor : ℕ → Result Line EdgeError → List ℕ → Option (List ℕ) → Bool → Type 0
+IsTakenFor limit (Ok (Text text)) bytes left ended = IsLineAt limit (Text text) bytes left ended
+IsTakenFor limit (Ok Long) bytes left ended = IsLineAt limit Long bytes left ended
+IsTakenFor limit (Ok End) bytes left ended = (bytes ≡ []) × NothingLeft left × IsTrue ended
+IsTakenFor limit (Err e) bytes left ended = HasNoLf bytes
 
 -- an answer is the first of the lines that are left, or End where there is none
 abbrev pub IsFirstOf : Line → List Line → List Line → Type 0
@@ -84,11 +84,11 @@ IsNextLine limit line None None = Unit {0}
 
 -- why a line came or none: the faults before and now, how many bytes were taken in all, and how many of
 -- them are unread
-abbrev pub HasCause : Result Line EdgeError → ℕ → ℕ → ℕ → ℕ → Type 0
-HasCause (Ok line) before now total unread = (before ≤ now) × (total ≤ 2 ^ 30)
-HasCause (Err edge.ReadFault) before now total unread = (before ≤ now) × Rose before now × (total ≤ 2 ^ 30) × (unread ≡ 0)
-HasCause (Err edge.InputLimit) before now total unread = (before ≤ now) × (0 < unread) × (total ≡ 2 ^ 30 + unread)
-HasCause (Err edge.Memory) before now total unread = (before ≤ now) × (total ≤ 2 ^ 30)
+abbrev pub HasLineCause : Result Line EdgeError → ℕ → ℕ → ℕ → ℕ → Type 0
+HasLineCause (Ok line) before now total unread = (before ≤ now) × (total ≤ 2 ^ 30)
+HasLineCause (Err edge.ReadFault) before now total unread = (before ≤ now) × HasRisen before now × (total ≤ 2 ^ 30) × (unread ≡ 0)
+HasLineCause (Err edge.InputLimit) before now total unread = (before ≤ now) × (0 < unread) × (total ≡ 2 ^ 30 + unread)
+HasLineCause (Err edge.Memory) before now total unread = (before ≤ now) × (total ≤ 2 ^ 30)
 
 -- behind the end there is no line
 abbrev pub EndsAgain : Result Line EdgeError → Type 0
@@ -115,7 +115,7 @@ Refills (Ok false) old new =
     (rest new ≡ rest old) × (unread new ≡ []) × (taken new ≡ taken old) × (taken new ≤ 2 ^ 30) × (faults old ≤ faults new) × NothingLeft (rest old)
     × (has_ended new ≡ true)
 Refills (Err edge.ReadFault) old new =
-    (rest new ≡ rest old) × (unread new ≡ []) × (taken new ≡ taken old) × (taken new ≤ 2 ^ 30) × (faults old ≤ faults new) × Rose (faults old) (faults new)
+    (rest new ≡ rest old) × (unread new ≡ []) × (taken new ≡ taken old) × (taken new ≤ 2 ^ 30) × (faults old ≤ faults new) × HasRisen (faults old) (faults new)
 Refills (Err edge.InputLimit) old new =
     (rest new ≡ rest old) × (0 < length (unread new)) × (taken old ≡ 2 ^ 30) × (taken new ≡ 2 ^ 30 + length (unread new))
     × (faults old ≤ faults new)
@@ -123,14 +123,14 @@ Refills (Err edge.Memory) old new = ⊥
 
 -- what a look at the unread bytes made of the line so far: it ended at the first LF, or goes on behind
 -- all of them
-abbrev pub Scans : {S : Type 0} {G : Ghosts S} → ℕ → Line → Result Scanned Memory → LineReader S G → LineReader S G → Type 0
-Scans limit line (Ok (Ended longer)) old new = (piece : List ℕ) × HasNoLf piece × (unread old ≡ piece ++ 10 ∷ unread new)
+abbrev pub IsScanned : {S : Type 0} {G : Ghosts S} → ℕ → Line → Result Scanned Memory → LineReader S G → LineReader S G → Type 0
+IsScanned limit line (Ok (Ended longer)) old new = (piece : List ℕ) × HasNoLf piece × (unread old ≡ piece ++ 10 ∷ unread new)
     × ((front : List ℕ) → line ≡ line_of limit front → longer ≡ line_of limit (front ++ piece))
-Scans limit line (Ok (Open longer)) old new = HasNoLf (unread old) × (unread new ≡ [])
+IsScanned limit line (Ok (Open longer)) old new = HasNoLf (unread old) × (unread new ≡ [])
     × ((front : List ℕ) → line ≡ line_of limit front → longer ≡ line_of limit (front ++ unread old))
-Scans limit line (Err e) old new = unread new ≡ unread old
+IsScanned limit line (Err e) old new = unread new ≡ unread old
 
 -- the line that the bytes before the end of the stream make: none where there are none
-abbrev pub Closes : ℕ → Line → Line → Type 0
-Closes limit line closed = (front : List ℕ) → line ≡ line_of limit front
+abbrev pub IsLastLine : ℕ → Line → Line → Type 0
+IsLastLine limit line closed = (front : List ℕ) → line ≡ line_of limit front
     → ((length front ≡ 0) × (closed ≡ End)) ⊎ ((0 < length front) × (closed ≡ line_of limit front))

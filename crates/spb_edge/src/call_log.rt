@@ -1,8 +1,8 @@
 //! The record of the calls of a disk in memory.
 ghost use Rattle.std.specs.Prelude.{◌≡◌, ◌<◌, ◌≤◌, [], length, IfOk, true, if◌then◌else◌};
-ghost use Rattle.spb_edge.specs.CallLog.{Log, empty, accepts, fails_next, refused, noted, logged, succeeds};
+ghost use Rattle.spb_edge.specs.CallLog.{Log, empty_log, is_made, fails_next, with_refusal, with_call, log_after, succeeds};
 ghost use Rattle.spb_edge.specs.Disk.{CountsFault};
-ghost use Rattle.spb_edge.specs.Fault.{Rose};
+ghost use Rattle.spb_edge.specs.Fault.{HasRisen};
 
 use crate::{DiskError, Memory};
 use std::alloc::Global;
@@ -72,7 +72,7 @@ impl Log {
         calls: usize,
         bytes: usize,
     ) -> Result<Log, Memory>
-        ensures { IfOk result (λ log. log ≡ empty failing.now stop calls bytes) }
+        ensures { IfOk result (λ log. log ≡ empty_log failing.now stop calls bytes) }
     {
         Ok(Log {
             calls: Vec::with_capacity(alloc, calls)?,
@@ -101,7 +101,7 @@ impl Log {
 
     /// Whether a call that writes `count` bytes is made: the disk has not stopped, and there is room.
     pub(crate) fn accepts(&self, count: usize) -> bool
-        ensures { result ≡ accepts self.now count }
+        ensures { result ≡ is_made self.now count }
     {
         let made = self.calls.len();
         let runs = match self.stop {
@@ -121,16 +121,16 @@ impl Log {
 
     /// Counts a call that isn't made.
     pub(crate) fn refuse(&mut self)
-        ensures state { self.new ≡ refused self.old }
-        ensures fault { (self.old.faults ≤ self.new.faults) × Rose self.old.faults self.new.faults }
+        ensures state { self.new ≡ with_refusal self.old }
+        ensures fault { (self.old.faults ≤ self.new.faults) × HasRisen self.old.faults self.new.faults }
     {
         self.faults = self.faults.saturating_add(1);
     }
 
     /// Writes down a call that is made, with the bytes that it writes, and counts it where it fails.
     pub(crate) fn note(&mut self, call: DiskCall, bytes: &[u8]) -> Result<(), DiskError>
-        requires { accepts self.old (length bytes.now) ≡ true }
-        ensures state { self.new ≡ noted call bytes.now self.old }
+        requires { is_made self.old (length bytes.now) ≡ true }
+        ensures state { self.new ≡ with_call call bytes.now self.old }
         ensures answer { result ≡ (if fails_next self.old then Err DiskError.Failed else Ok tt) }
         ensures fault { CountsFault result self.old.faults self.new.faults }
     {
@@ -147,7 +147,7 @@ impl Log {
 
     /// One more call that writes nothing, if it is made.
     pub(crate) fn call(&mut self, call: DiskCall) -> Result<(), DiskError>
-        ensures state { self.new ≡ logged call [] self.old }
+        ensures state { self.new ≡ log_after call [] self.old }
         ensures answer { result ≡ (if succeeds self.old 0 then Ok tt else Err DiskError.Failed) }
         ensures fault { CountsFault result self.old.faults self.new.faults }
     {

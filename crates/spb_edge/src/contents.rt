@@ -1,7 +1,7 @@
 //! What a disk in memory holds: the image as it reads, the kept one, and the ranges written since.
 ghost use Rattle.std.specs.Prelude.{◌≡◌, ◌+◌, ◌<◌, ◌≤◌, length, replicate, IfOk, OnOk, OnErr, vec_len, vec_capacity};
-ghost use Rattle.spb_edge.specs.Contents.{Leaves, fresh, with_range, all_kept, filled};
-ghost use Rattle.spb_edge.specs.Disk.{laid};
+ghost use Rattle.spb_edge.specs.Contents.{AreTornOver, fresh_contents, with_range, synced_contents, with_ranges_filled};
+ghost use Rattle.spb_edge.specs.Disk.{overwritten_at};
 
 use crate::lay::lay;
 use crate::{Bytes, Memory};
@@ -38,7 +38,7 @@ impl Model for Contents {
     } };
 
     ghost invariant = { λ c. (length c.kept.items ≤ length c.image.items) × (length c.image.items ≤ vec_capacity c.kept)
-        × (c.room ≤ vec_capacity c.unsynced) × words.Join (length c.kept.items) c.unsynced.items (length c.image.items) };
+        × (c.room ≤ vec_capacity c.unsynced) × words.ReachTo (length c.kept.items) c.unsynced.items (length c.image.items) };
 }
 
 /// Room for `growth` more bytes in the image, and for all of them in the kept one.
@@ -58,7 +58,7 @@ fn reserve(image: &mut Vec<u8>, kept: &mut Vec<u8>, growth: usize) -> Result<(),
 impl Contents {
     /// A copy of the image, all of it kept, and room for so many ranges.
     pub(crate) fn new(alloc: Global, image: &[u8], room: usize) -> Result<Contents, Memory>
-        ensures { IfOk result (λ now. now ≡ fresh image.now room) }
+        ensures { IfOk result (λ now. now ≡ fresh_contents image.now room) }
     {
         Ok(Contents {
             image: Vec::from_slice(alloc, image)?,
@@ -97,7 +97,7 @@ impl Contents {
     pub(crate) fn write(&mut self, at: usize, bytes: &[u8]) -> Result<(), Memory>
         requires within { at ≤ length self.old.image }
         requires room { length self.old.unsynced < self.old.room }
-        ensures ok { OnOk result (self.new ≡ with_range at (length bytes.now) (laid self.old.image at bytes.now) self.old) }
+        ensures ok { OnOk result (self.new ≡ with_range at (length bytes.now) (overwritten_at self.old.image at bytes.now) self.old) }
         ensures err { OnErr result (self.new ≡ self.old) }
         ensures full { OnErr result (length self.old.image < at + length bytes.now) }
     {
@@ -117,7 +117,7 @@ impl Contents {
 
     /// Keeps the image as it reads.
     pub(crate) fn keep(&mut self)
-        ensures { self.new ≡ all_kept self.old }
+        ensures { self.new ≡ synced_contents self.old }
     {
         self.kept.clear();
         let Ok(()) = self.kept.extend_from_slice(&self.image) else {
@@ -128,8 +128,8 @@ impl Contents {
 
     /// The kept image with so many of the byte in each range since.
     pub(crate) fn filled(&self, alloc: Global, byte: u8) -> Result<Bytes, Memory>
-        ensures filled { IfOk result (λ bytes. bytes ≡ filled byte self.now.kept self.now.unsynced) }
-        ensures leaves { IfOk result (λ bytes. Leaves self.now.kept self.now.unsynced bytes) }
+        ensures filled { IfOk result (λ bytes. bytes ≡ with_ranges_filled byte self.now.kept self.now.unsynced) }
+        ensures leaves { IfOk result (λ bytes. AreTornOver self.now.kept self.now.unsynced bytes) }
     {
         let mut image = Vec::from_slice(alloc, &self.kept)?;
         for range in &self.unsynced {
@@ -142,7 +142,7 @@ impl Contents {
 /// Puts `count` of the byte over an image, within which or at whose end they begin.
 fn fill(image: &mut Vec<u8>, at: usize, count: usize, byte: u8) -> Result<(), Memory>
     requires { at ≤ length image.old.items }
-    ensures { OnOk result (image.new.items ≡ laid image.old.items at (replicate count byte)) }
+    ensures { OnOk result (image.new.items ≡ overwritten_at image.old.items at (replicate count byte)) }
 {
     let growth = count - count.min(image.len() - at);
     // With the room there, the sum of the lengths fits.
@@ -155,7 +155,7 @@ fn fill(image: &mut Vec<u8>, at: usize, count: usize, byte: u8) -> Result<(), Me
 /// Puts `count` of the byte into an image.
 fn fill_within(image: &mut [u8], at: usize, count: usize, byte: u8)
     requires { at + count ≤ length image.old }
-    ensures { image.new ≡ laid image.old at (replicate count byte) }
+    ensures { image.new ≡ overwritten_at image.old at (replicate count byte) }
 {
     image[at..at + count].fill(byte);
 }

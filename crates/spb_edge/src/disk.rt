@@ -21,16 +21,16 @@ pub enum DiskError {
 /// and any part of the growth; what a sync that succeeded kept stays.
 pub trait Disk {
     ghost use Rattle.std.specs.Prelude.{◌≡◌, ℕ, ◌+◌, ◌≤◌, Bool, List, IsTrue, OnOk, length, take, drop};
-    ghost use Rattle.spb_edge.specs.Disk.{Sizes, Writes, Grows, CountsFault, CountsWriteFault};
-    ghost use Rattle.spb_edge.specs.Fault.{counted};
-    ghost use Rattle.spb_edge.specs.Crash.{Torn, Follows, Within, Only, Elapses};
+    ghost use Rattle.spb_edge.specs.Disk.{IsSize, Overwrites, Extends, CountsFault, CountsWriteFault};
+    ghost use Rattle.spb_edge.specs.Fault.{next_count};
+    ghost use Rattle.spb_edge.specs.Crash.{IsTornWrite, FollowsBy, Includes, IsDurable, Elapses};
     ghost use Rattle.spb_edge.specs.Quiet.{IsQuiet};
 
     // whether the disk tells its image
-    ghost told: { Self → Bool };
+    ghost is_known: { Self → Bool };
 
     // whether it tells which images a crash may leave
-    ghost tells_crashes: { Self → Bool };
+    ghost knows_crashes: { Self → Bool };
 
     // the image as it reads, where it is told
     ghost image: { Self → List ℕ };
@@ -39,13 +39,13 @@ pub trait Disk {
     ghost size_of: { Self → ℕ };
 
     // the images that a crash may leave now; all of them where they aren't told
-    ghost may_leave: { Self → List ℕ → Type 0 };
+    ghost crash_states: { Self → List ℕ → Type 0 };
 
     // a number that doesn't fall
     ghost moment: { Self → ℕ };
 
     // the images that a crash may have left at some moment from the given one on
-    ghost left_since: { Self → ℕ → List ℕ → Type 0 };
+    ghost crash_states_since: { Self → ℕ → List ℕ → Type 0 };
 
     // how many calls of `read` were made, where the image is told
     ghost reads: { Self → ℕ };
@@ -58,64 +58,64 @@ pub trait Disk {
 
     /// The length in bytes.
     fn size(&mut self) -> Result<u64, DiskError>
-        ensures size { Sizes result (size_of self.old) }
-        ensures told { (told self.new ≡ told self.old) × (tells_crashes self.new ≡ tells_crashes self.old) }
+        ensures size { IsSize result (size_of self.old) }
+        ensures told { (is_known self.new ≡ is_known self.old) × (knows_crashes self.new ≡ knows_crashes self.old) }
         ensures length { size_of self.new ≡ size_of self.old }
-        ensures image { IsTrue (told self.old) → image self.new ≡ image self.old }
+        ensures image { IsTrue (is_known self.old) → image self.new ≡ image self.old }
         ensures quiet { quiet self.old self.new }
-        ensures reads { IsTrue (told self.old) → reads self.new ≡ reads self.old }
+        ensures reads { IsTrue (is_known self.old) → reads self.new ≡ reads self.old }
         ensures fault { CountsFault result (faults self.old) (faults self.new) };
 
     /// Fills `into` with the bytes from `at` on. Where the disk tells its image, they lie within it.
     fn read(&mut self, at: u64, into: &mut [u8]) -> Result<(), DiskError>
-        requires { IsTrue (told self.old) → at + length into.old ≤ size_of self.old }
-        ensures data { IsTrue (told self.old) → OnOk result (into.new ≡ take (length into.old) (drop at (image self.old))) }
-        ensures told { (told self.new ≡ told self.old) × (tells_crashes self.new ≡ tells_crashes self.old) }
+        requires { IsTrue (is_known self.old) → at + length into.old ≤ size_of self.old }
+        ensures data { IsTrue (is_known self.old) → OnOk result (into.new ≡ take (length into.old) (drop at (image self.old))) }
+        ensures told { (is_known self.new ≡ is_known self.old) × (knows_crashes self.new ≡ knows_crashes self.old) }
         ensures length { size_of self.new ≡ size_of self.old }
-        ensures image { IsTrue (told self.old) → image self.new ≡ image self.old }
+        ensures image { IsTrue (is_known self.old) → image self.new ≡ image self.old }
         ensures quiet { quiet self.old self.new }
-        ensures reads { IsTrue (told self.old) → reads self.new ≡ counted (reads self.old) }
+        ensures reads { IsTrue (is_known self.old) → reads self.new ≡ next_count (reads self.old) }
         ensures fault { CountsFault result (faults self.old) (faults self.new) };
 
     /// Lays `bytes` over the image from `at` on. Where the disk tells its image, that is at most its
     /// end. Until a sync succeeds, a crash may leave any bytes in this range, and any part of the
     /// growth, whatever the call answers. A refused write may have laid any bytes there.
     fn write_at(&mut self, at: u64, bytes: &[u8]) -> Result<(), DiskError>
-        requires { IsTrue (told self.old) → at ≤ size_of self.old }
-        ensures image { IsTrue (told self.old) → Writes result at bytes.now (image self.old) (image self.new) }
-        ensures told { (told self.new ≡ told self.old) × (tells_crashes self.new ≡ tells_crashes self.old) }
-        ensures length { Grows result (size_of self.old) (at + length bytes.now) (size_of self.new) }
-        ensures crash { Follows (Torn at (length bytes.now)) (may_leave self.old) (may_leave self.new) }
-        ensures time { Elapses (moment self.old) (moment self.new) (left_since self.old) (left_since self.new) (may_leave self.new) }
-        ensures reads { IsTrue (told self.old) → reads self.new ≡ reads self.old }
+        requires { IsTrue (is_known self.old) → at ≤ size_of self.old }
+        ensures image { IsTrue (is_known self.old) → Overwrites result at bytes.now (image self.old) (image self.new) }
+        ensures told { (is_known self.new ≡ is_known self.old) × (knows_crashes self.new ≡ knows_crashes self.old) }
+        ensures length { Extends result (size_of self.old) (at + length bytes.now) (size_of self.new) }
+        ensures crash { FollowsBy (IsTornWrite at (length bytes.now)) (crash_states self.old) (crash_states self.new) }
+        ensures time { Elapses (moment self.old) (moment self.new) (crash_states_since self.old) (crash_states_since self.new) (crash_states self.new) }
+        ensures reads { IsTrue (is_known self.old) → reads self.new ≡ reads self.old }
         ensures fault { CountsWriteFault result (size_of self.old) (at + length bytes.now) (faults self.old) (faults self.new) };
 
     /// Asks that what was written be kept. The image stays as it reads. Where the call succeeds, a
     /// crash leaves it and nothing else; until then, what it could leave before.
     fn sync(&mut self) -> Result<(), DiskError>
-        ensures kept { IsTrue (told self.old) → IsTrue (tells_crashes self.old) → OnOk result (Only (image self.old) (may_leave self.new)) }
-        ensures told { (told self.new ≡ told self.old) × (tells_crashes self.new ≡ tells_crashes self.old) }
+        ensures kept { IsTrue (is_known self.old) → IsTrue (knows_crashes self.old) → OnOk result (IsDurable (image self.old) (crash_states self.new)) }
+        ensures told { (is_known self.new ≡ is_known self.old) × (knows_crashes self.new ≡ knows_crashes self.old) }
         ensures length { size_of self.new ≡ size_of self.old }
-        ensures image { IsTrue (told self.old) → image self.new ≡ image self.old }
-        ensures crash { Within (may_leave self.old) (may_leave self.new) }
-        ensures time { Elapses (moment self.old) (moment self.new) (left_since self.old) (left_since self.new) (may_leave self.new) }
-        ensures reads { IsTrue (told self.old) → reads self.new ≡ reads self.old }
+        ensures image { IsTrue (is_known self.old) → image self.new ≡ image self.old }
+        ensures crash { Includes (crash_states self.old) (crash_states self.new) }
+        ensures time { Elapses (moment self.old) (moment self.new) (crash_states_since self.old) (crash_states_since self.new) (crash_states self.new) }
+        ensures reads { IsTrue (is_known self.old) → reads self.new ≡ reads self.old }
         ensures fault { CountsFault result (faults self.old) (faults self.new) };
 
     // a told image has the length that is told
-    ghost length_is: { (d : Self) → IsTrue (told d) → size_of d ≡ length (image d) };
+    ghost length_is: { (d : Self) → IsTrue (is_known d) → size_of d ≡ length (image d) };
 
     // a crash may leave a told image as it reads
-    ghost leaves_image: { (d : Self) → IsTrue (told d) → may_leave d (image d) };
+    ghost leaves_image: { (d : Self) → IsTrue (is_known d) → crash_states d (image d) };
 
     // what a crash may leave now is what it may have left since any moment so far
-    ghost counts_now: { (d : Self) (t : ℕ) (c : List ℕ) → t ≤ moment d → may_leave d c → left_since d t c };
+    ghost counts_now: { (d : Self) (t : ℕ) (c : List ℕ) → t ≤ moment d → crash_states d c → crash_states_since d t c };
 
     // since now, there is only what a crash may leave now
-    ghost only_now: { (d : Self) → Within (may_leave d) (left_since d (moment d)) };
+    ghost only_now: { (d : Self) → Includes (crash_states d) (crash_states_since d (moment d)) };
 
     // what holds over a quiet stretch
-    ghost quiet_is: { (old new : Self) → quiet old new → IsQuiet told tells_crashes size_of image may_leave moment left_since old new };
+    ghost quiet_is: { (old new : Self) → quiet old new → IsQuiet is_known knows_crashes size_of image crash_states moment crash_states_since old new };
 
     // a state is quiet with itself
     ghost quiet_same: { (d : Self) → quiet d d };

@@ -1,6 +1,6 @@
 //! A source for tests that never ends.
 ghost use Rattle.std.specs.Prelude.{◌≡◌, ◌<◌, None, length, replicate};
-ghost use Rattle.spb_edge.specs.Source.{Gives, IsWithin, CountsFault};
+ghost use Rattle.spb_edge.specs.Source.{GivesBytes, IsCountWithin, CountsFault};
 ghost use Rattle.spb_edge.specs.declared.source.Take.TheVariants.{Got};
 
 use crate::{Source, Take};
@@ -20,8 +20,8 @@ impl Source for EndlessSource {
 
     fn take(&mut self, into: &mut [u8]) -> Take
         requires { 0 < length into.old }
-        ensures within { IsWithin result (length into.old) }
-        ensures gives { Gives result into.new None None }
+        ensures within { IsCountWithin result (length into.old) }
+        ensures gives { GivesBytes result into.new None None }
         ensures fault { CountsFault result 0 0 }
         // Each call fills the whole buffer with the byte.
         ensures fills { (result ≡ Got (length into.old)) × (into.new ≡ replicate (length into.old) self.old.byte) }

@@ -1,6 +1,6 @@
 //! Bytes laid over an image in memory.
 ghost use Rattle.std.specs.Prelude.{◌≡◌, ◌≤◌, ◌+◌, ◌<◌, OnOk, OnErr, length, vec_len, vec_capacity};
-ghost use Rattle.spb_edge.specs.Disk.{laid};
+ghost use Rattle.spb_edge.specs.Disk.{overwritten_at};
 
 use crate::Memory;
 
@@ -8,7 +8,7 @@ use crate::Memory;
 /// reach past the capacity, and nothing changes then.
 pub(crate) fn lay(image: &mut Vec<u8>, at: usize, bytes: &[u8]) -> Result<(), Memory>
     requires { at ≤ length image.old.items }
-    ensures laid { OnOk result (image.new.items ≡ laid image.old.items at bytes.now) }
+    ensures laid { OnOk result (image.new.items ≡ overwritten_at image.old.items at bytes.now) }
     ensures kept { OnErr result (image.new.items ≡ image.old.items) }
     ensures full { OnErr result (vec_capacity image.old < at + length bytes.now) }
 {

@@ -1,11 +1,11 @@
 //! A disk in memory that keeps a record of its calls, and shows what a crash may leave.
 ghost use Rattle.std.specs.Prelude.{◌≡◌, ◌+◌, ◌≤◌, [], IsTrue, true, IfOk, OnOk, length, take, drop, if◌then◌else◌};
 ghost use Rattle.spb_edge.specs.CallLog.{succeeds};
-ghost use Rattle.spb_edge.specs.Contents.{MayLeave};
-ghost use Rattle.spb_edge.specs.Crash.{Torn, Follows, Within, Only, Elapses};
-ghost use Rattle.spb_edge.specs.Disk.{Sizes, Writes, Grows, CountsFault, CountsWriteFault};
-ghost use Rattle.spb_edge.specs.Fault.{counted};
-ghost use Rattle.spb_edge.specs.MemDisk.{new_disk, called, left_since, left_by, IsQuietDisk, AnswersWrite};
+ghost use Rattle.spb_edge.specs.Contents.{IsCrashState};
+ghost use Rattle.spb_edge.specs.Crash.{IsTornWrite, FollowsBy, Includes, IsDurable, Elapses};
+ghost use Rattle.spb_edge.specs.Disk.{IsSize, Overwrites, Extends, CountsFault, CountsWriteFault};
+ghost use Rattle.spb_edge.specs.Fault.{next_count};
+ghost use Rattle.spb_edge.specs.MemDisk.{new_disk, disk_after, crash_states_since, chosen_crash_state, IsQuietDisk, AnswersWrite};
 
 use crate::call_log::{DiskCall, Log};
 use crate::contents::Contents;
@@ -39,13 +39,13 @@ pub struct MemDisk {
 }
 
 impl Model for MemDisk {
-    ghost use Rattle.spb_edge.specs.MemDisk.{DiskState, IsReached};
+    ghost use Rattle.spb_edge.specs.MemDisk.{DiskState, IsReplayed};
 
     ghost Value = { DiskState };
 
     ghost view = { λ d. record { first = d.first.items; log = d.log; held = d.held; reads = d.reads } };
 
-    ghost invariant = { λ d. IsReached d.first.items d.log d.held };
+    ghost invariant = { λ d. IsReplayed d.first.items d.log d.held };
 }
 
 impl MemDisk {
@@ -95,8 +95,8 @@ impl MemDisk {
     /// An image that a crash now may leave, at the cost of a copy and, to fill, of the ranges since the
     /// last sync that succeeded.
     pub fn after_crash(&self, alloc: Global, choice: Choice) -> Result<Bytes, Memory>
-        ensures chosen { IfOk result (λ bytes. bytes ≡ left_by choice self.now.held) }
-        ensures may_leave { IfOk result (λ bytes. MayLeave self.now.held bytes) }
+        ensures chosen { IfOk result (λ bytes. bytes ≡ chosen_crash_state choice self.now.held) }
+        ensures may_leave { IfOk result (λ bytes. IsCrashState self.now.held bytes) }
     {
         match choice {
             Choice::KeepAll => Bytes::of(alloc, self.held.image()),
@@ -108,22 +108,22 @@ impl MemDisk {
 
 impl Disk for MemDisk {
     ghost use Rattle.std.proofs.Common.{inl, refl};
-    ghost use Rattle.spb_edge.specs.MemDisk.{left_since, IsQuietDisk, only_now};
+    ghost use Rattle.spb_edge.specs.MemDisk.{crash_states_since, IsQuietDisk, only_now};
     ghost use Rattle.spb_edge.specs.Quiet.{quiet_same, quiet_chains};
 
-    ghost told = { λ _. true };
+    ghost is_known = { λ _. true };
 
-    ghost tells_crashes = { λ _. true };
+    ghost knows_crashes = { λ _. true };
 
     ghost image = { λ d. d.held.image };
 
     ghost size_of = { λ d. length d.held.image };
 
-    ghost may_leave = { λ d. MayLeave d.held };
+    ghost crash_states = { λ d. IsCrashState d.held };
 
     ghost moment = { λ d. length d.log.calls };
 
-    ghost left_since = { left_since };
+    ghost crash_states_since = { crash_states_since };
 
     ghost reads = { λ d. d.reads };
 
@@ -146,14 +146,14 @@ impl Disk for MemDisk {
     ghost quiet_chains = { λ old mid new first second. quiet_chains _ _ _ _ _ _ _ old mid new first second };
 
     fn size(&mut self) -> Result<u64, DiskError>
-        ensures size { Sizes result (length self.old.held.image) }
+        ensures size { IsSize result (length self.old.held.image) }
         ensures length { length self.new.held.image ≡ length self.old.held.image }
         ensures image { self.new.held.image ≡ self.old.held.image }
         ensures quiet { IsQuietDisk self.old self.new }
         ensures reads { self.new.reads ≡ self.old.reads }
         ensures fault { CountsFault result self.old.log.faults self.new.log.faults }
         // Exactly the calls fail that aren't made and those that were chosen.
-        ensures state { self.new ≡ called DiskCall.Size [] self.old }
+        ensures state { self.new ≡ disk_after DiskCall.Size [] self.old }
         ensures answer { result ≡ (if succeeds self.old.log 0 then Ok (length self.old.held.image) else Err DiskError.Failed) }
     {
         self.log.call(DiskCall::Size)?;
@@ -166,9 +166,9 @@ impl Disk for MemDisk {
         ensures length { length self.new.held.image ≡ length self.old.held.image }
         ensures image { self.new.held.image ≡ self.old.held.image }
         ensures quiet { IsQuietDisk self.old self.new }
-        ensures reads { self.new.reads ≡ counted self.old.reads }
+        ensures reads { self.new.reads ≡ next_count self.old.reads }
         ensures fault { CountsFault result self.old.log.faults self.new.log.faults }
-        ensures state { self.new ≡ record (called (DiskCall.Read at (length into.old)) [] self.old) { reads = counted self.old.reads } }
+        ensures state { self.new ≡ record (disk_after (DiskCall.Read at (length into.old)) [] self.old) { reads = next_count self.old.reads } }
         ensures answer { result ≡ (if succeeds self.old.log 0 then Ok tt else Err DiskError.Failed) }
     {
         self.reads = self.reads.saturating_add(1);
@@ -181,10 +181,10 @@ impl Disk for MemDisk {
 
     fn write_at(&mut self, at: u64, bytes: &[u8]) -> Result<(), DiskError>
         requires { at ≤ length self.old.held.image }
-        ensures image { Writes result at bytes.now self.old.held.image self.new.held.image }
-        ensures length { Grows result (length self.old.held.image) (at + length bytes.now) (length self.new.held.image) }
-        ensures crash { Follows (Torn at (length bytes.now)) (MayLeave self.old.held) (MayLeave self.new.held) }
-        ensures time { Elapses (length self.old.log.calls) (length self.new.log.calls) (left_since self.old) (left_since self.new) (MayLeave self.new.held) }
+        ensures image { Overwrites result at bytes.now self.old.held.image self.new.held.image }
+        ensures length { Extends result (length self.old.held.image) (at + length bytes.now) (length self.new.held.image) }
+        ensures crash { FollowsBy (IsTornWrite at (length bytes.now)) (IsCrashState self.old.held) (IsCrashState self.new.held) }
+        ensures time { Elapses (length self.old.log.calls) (length self.new.log.calls) (crash_states_since self.old) (crash_states_since self.new) (IsCrashState self.new.held) }
         ensures reads { self.new.reads ≡ self.old.reads }
         ensures fault { CountsWriteFault result (length self.old.held.image) (at + length bytes.now) self.old.log.faults self.new.log.faults }
         ensures exact { AnswersWrite result self.old at bytes.now self.new }
@@ -206,14 +206,14 @@ impl Disk for MemDisk {
     }
 
     fn sync(&mut self) -> Result<(), DiskError>
-        ensures kept { OnOk result (Only self.old.held.image (MayLeave self.new.held)) }
+        ensures kept { OnOk result (IsDurable self.old.held.image (IsCrashState self.new.held)) }
         ensures length { length self.new.held.image ≡ length self.old.held.image }
         ensures image { self.new.held.image ≡ self.old.held.image }
-        ensures crash { Within (MayLeave self.old.held) (MayLeave self.new.held) }
-        ensures time { Elapses (length self.old.log.calls) (length self.new.log.calls) (left_since self.old) (left_since self.new) (MayLeave self.new.held) }
+        ensures crash { Includes (IsCrashState self.old.held) (IsCrashState self.new.held) }
+        ensures time { Elapses (length self.old.log.calls) (length self.new.log.calls) (crash_states_since self.old) (crash_states_since self.new) (IsCrashState self.new.held) }
         ensures reads { self.new.reads ≡ self.old.reads }
         ensures fault { CountsFault result self.old.log.faults self.new.log.faults }
-        ensures state { self.new ≡ called DiskCall.Sync [] self.old }
+        ensures state { self.new ≡ disk_after DiskCall.Sync [] self.old }
         ensures answer { result ≡ (if succeeds self.old.log 0 then Ok tt else Err DiskError.Failed) }
     {
         self.log.call(DiskCall::Sync)?;

@@ -1,7 +1,7 @@
 //! A sink in memory, for tests.
 ghost use Rattle.std.specs.Prelude.{◌≡◌, ◌<◌, ◌≤◌, Some, length, IfOk, vec_len, vec_capacity};
-ghost use Rattle.spb_edge.specs.MemSink.{SinkState, IsNewSink, Answers};
-ghost use Rattle.spb_edge.specs.Sink.{Takes, IsWithin, CountsFault};
+ghost use Rattle.spb_edge.specs.MemSink.{SinkState, IsNewSink, AnswersPut};
+ghost use Rattle.spb_edge.specs.Sink.{AppendsTaken, IsCountWithin, CountsFault};
 
 use crate::{Memory, Put, Sink};
 use std::alloc::Global;
@@ -64,11 +64,11 @@ impl Sink for MemSink {
 
     fn put(&mut self, piece: &[u8]) -> Put
         requires { 0 < length piece.now }
-        ensures within { IsWithin result (length piece.now) }
-        ensures takes { Takes result piece.now (Some self.old.taken) (Some self.new.taken) }
+        ensures within { IsCountWithin result (length piece.now) }
+        ensures takes { AppendsTaken result piece.now (Some self.old.taken) (Some self.new.taken) }
         ensures fault { CountsFault result self.old.faults self.new.faults }
         // Which calls fail, and how many bytes the others take.
-        ensures exact { Answers self.old (length piece.now) result self.new }
+        ensures exact { AnswersPut self.old (length piece.now) result self.new }
     {
         self.calls = self.calls.saturating_add(1);
         let free = self.room - self.taken.len();

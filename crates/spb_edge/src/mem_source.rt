@@ -1,7 +1,7 @@
 //! A source in memory, for tests.
 ghost use Rattle.std.specs.Prelude.{◌+◌, ◌<◌, ◌≤◌, Some, length, IfOk};
-ghost use Rattle.spb_edge.specs.MemSource.{SourceState, IsNewSource, Answers};
-ghost use Rattle.spb_edge.specs.Source.{Gives, IsWithin, CountsFault};
+ghost use Rattle.spb_edge.specs.MemSource.{SourceState, IsNewSource, AnswersTake};
+ghost use Rattle.spb_edge.specs.Source.{GivesBytes, IsCountWithin, CountsFault};
 
 use crate::{Bytes, Memory, Source, Take};
 use std::alloc::Global;
@@ -65,11 +65,11 @@ impl Source for MemSource {
 
     fn take(&mut self, into: &mut [u8]) -> Take
         requires { 0 < length into.old }
-        ensures within { IsWithin result (length into.old) }
-        ensures gives { Gives result into.new (Some self.old.left) (Some self.new.left) }
+        ensures within { IsCountWithin result (length into.old) }
+        ensures gives { GivesBytes result into.new (Some self.old.left) (Some self.new.left) }
         ensures fault { CountsFault result self.old.faults self.new.faults }
         // Which calls fail, and how many bytes the others give.
-        ensures exact { Answers self.old (length into.old) result self.new }
+        ensures exact { AnswersTake self.old (length into.old) result self.new }
     {
         self.calls = self.calls.saturating_add(1);
         if self.failing.contains(&self.calls) {

@@ -1,6 +1,6 @@
 //! The lines of a stream, in whatever pieces it comes.
 ghost use Rattle.std.specs.Prelude.{◌≡◌, ℕ, ◌+◌, ◌-◌, ◌<◌, ◌≤◌, List, [], ◌++◌, length, IfOk, OnOk, IsOk, Ok, false, IsTrue, ◌↔◌};
-ghost use Rattle.spb_edge.specs.Source.{Gives, IsWithin, CountsFault};
+ghost use Rattle.spb_edge.specs.Source.{GivesBytes, IsCountWithin, CountsFault};
 
 use crate::{Bytes, Memory, Source, Take};
 use memchr::memchr;
@@ -27,7 +27,7 @@ pub enum Line {
 impl Line {
     ghost use Rattle.spb_edge.specs.declared.reader.Line.{Line};
     ghost use Rattle.spb_edge.specs.Lines.{line_of};
-    ghost use Rattle.spb_edge.specs.Reader.{Closes};
+    ghost use Rattle.spb_edge.specs.Reader.{IsLastLine};
 
     /// Whether no line is left.
     pub fn is_end(&self) -> bool
@@ -59,7 +59,7 @@ impl Line {
 
     /// The line that ends with the stream: none where it has no byte.
     fn closed(self, limit: usize) -> Line
-        ensures { Closes limit self result }
+        ensures { IsLastLine limit self result }
     {
         match self {
             Line::Text(text) if text.as_slice().is_empty() => Line::End,
@@ -118,7 +118,7 @@ pub struct LineReader<'a, S: Source> {
 }
 
 impl<'a, S: Source> LineReader<'a, S> {
-    ghost use Rattle.spb_edge.specs.Reader.{unread, rest, taken, faults, has_ended, budget, IsOpen, TakesOff, Spells, IsNextLine, HasCause, EndsAgain, LowersBudget, Refills, Scans};
+    ghost use Rattle.spb_edge.specs.Reader.{unread, rest, taken, faults, has_ended, budget, CanTakeLine, TakesOff, IsTakenFor, IsNextLine, HasLineCause, EndsAgain, LowersBudget, Refills, IsScanned};
 
     /// A reader at the front of what the source has left. It takes no memory.
     pub fn new(_alloc: Global, source: &'a mut S) -> Result<LineReader<'a, S>, Memory>
@@ -149,14 +149,14 @@ impl<'a, S: Source> LineReader<'a, S> {
     /// progress may be gone, and nothing more. It looks at each byte once, and copies the text of the
     /// line into memory of its own.
     pub fn take_line(&mut self, alloc: Global, limit: usize) -> Result<Line, EdgeError>
-        requires open { IsOpen self.old }
-        ensures open { OnOk result (IsOpen self.new) }
+        requires open { CanTakeLine self.old }
+        ensures open { OnOk result (CanTakeLine self.new) }
         // It is the first of the lines that are left, or End where there is none.
         ensures line { IfOk result (λ line. IsNextLine limit line (rest self.old) (rest self.new)) }
         // Which bytes went, whatever the answer.
         ensures consumed { (bytes : List ℕ) × TakesOff self.old self.new bytes
-            × Spells limit result bytes (rest self.new) (has_ended self.new) }
-        ensures cause { HasCause result (faults self.old) (faults self.new) (taken self.new)
+            × IsTakenFor limit result bytes (rest self.new) (has_ended self.new) }
+        ensures cause { HasLineCause result (faults self.old) (faults self.new) (taken self.new)
             (length (unread self.new)) }
         // Behind the end of the stream the source isn't asked again.
         ensures after_end { IsTrue (has_ended self.old) → EndsAgain result }
@@ -179,7 +179,7 @@ impl<'a, S: Source> LineReader<'a, S> {
 
     /// Goes on with the line by what is unread, to the first LF or to the end of the buffer.
     fn scan(&mut self, line: Line, limit: usize) -> Result<Scanned, Memory>
-        ensures scans { Scans limit line result self.old self.new }
+        ensures scans { IsScanned limit line result self.old self.new }
         ensures source { self.new.source.now ≡ self.old.source.now }
         ensures taken { taken self.new ≡ taken self.old }
         ensures ended { has_ended self.new ≡ has_ended self.old }
@@ -204,7 +204,7 @@ impl<'a, S: Source> LineReader<'a, S> {
     /// that nothing is left, it isn't asked again.
     fn refill(&mut self) -> Result<bool, EdgeError>
         requires empty { unread self.old ≡ [] }
-        requires open { IsOpen self.old }
+        requires open { CanTakeLine self.old }
         ensures refills { Refills result self.old self.new }
         ensures after_end { IsTrue (has_ended self.old) → result ≡ Ok false }
         ensures unasked { IsTrue (has_ended self.old) → self.new.source.now ≡ self.old.source.now }
@@ -238,8 +238,8 @@ impl<'a, S: Source> LineReader<'a, S> {
 fn fill<S: Source>(source: &mut S, buffer: &mut [u8], room: usize) -> Take
     requires some { 0 < room }
     requires within { room ≤ length buffer.old }
-    ensures within { IsWithin result room }
-    ensures gives { Gives result buffer.new (S.left source.old) (S.left source.new) }
+    ensures within { IsCountWithin result room }
+    ensures gives { GivesBytes result buffer.new (S.left source.old) (S.left source.new) }
     ensures fault { CountsFault result (S.faults source.old) (S.faults source.new) }
 {
     source.take(&mut buffer[..room])

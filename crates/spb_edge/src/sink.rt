@@ -1,6 +1,6 @@
 //! Sinks, and putting all bytes into one.
 ghost use Rattle.std.specs.Prelude.{ℕ, ◌<◌, List, Option, length};
-ghost use Rattle.spb_edge.specs.Fault.{IsCounted};
+ghost use Rattle.spb_edge.specs.Fault.{CountsError};
 ghost use Rattle.spb_edge.specs.Sink.{PutsAll};
 
 use thiserror::Error;
@@ -17,7 +17,7 @@ pub enum Put {
 /// Where bytes go to, in pieces of any size.
 pub trait Sink {
     ghost use Rattle.std.specs.Prelude.{ℕ, ◌<◌, List, Option, length};
-    ghost use Rattle.spb_edge.specs.Sink.{Takes, IsWithin, CountsFault};
+    ghost use Rattle.spb_edge.specs.Sink.{AppendsTaken, IsCountWithin, CountsFault};
 
     // the bytes taken so far, where the sink tells them
     ghost taken: { Self → Option (List ℕ) };
@@ -28,8 +28,8 @@ pub trait Sink {
     /// Takes the first bytes of `piece`, which isn't empty.
     fn put(&mut self, piece: &[u8]) -> Put
         requires { 0 < length piece.now }
-        ensures within { IsWithin result (length piece.now) }
-        ensures takes { Takes result piece.now (taken self.old) (taken self.new) }
+        ensures within { IsCountWithin result (length piece.now) }
+        ensures takes { AppendsTaken result piece.now (taken self.old) (taken self.new) }
         ensures fault { CountsFault result (faults self.old) (faults self.new) };
 }
 
@@ -42,7 +42,7 @@ pub struct WriteFault;
 /// was put.
 pub fn put_all<K: Sink>(sink: &mut K, bytes: &[u8]) -> Result<(), WriteFault>
     ensures puts { PutsAll result bytes.now (K.taken sink.old) (K.taken sink.new) }
-    ensures fault { IsCounted result (K.faults sink.old) (K.faults sink.new) }
+    ensures fault { CountsError result (K.faults sink.old) (K.faults sink.new) }
 {
     let mut done = 0;
     while done < bytes.len() {

@@ -15,7 +15,7 @@ pub enum Take {
 /// Where bytes come from, in pieces of any size.
 pub trait Source {
     ghost use Rattle.std.specs.Prelude.{ℕ, ◌<◌, List, Option, length};
-    ghost use Rattle.spb_edge.specs.Source.{Gives, IsWithin, CountsFault};
+    ghost use Rattle.spb_edge.specs.Source.{GivesBytes, IsCountWithin, CountsFault};
 
     // the bytes left, where the source tells them
     ghost left: { Self → Option (List ℕ) };
@@ -26,7 +26,7 @@ pub trait Source {
     /// Takes the next bytes into the front of `into`, which isn't empty.
     fn take(&mut self, into: &mut [u8]) -> Take
         requires { 0 < length into.old }
-        ensures within { IsWithin result (length into.old) }
-        ensures gives { Gives result into.new (left self.old) (left self.new) }
+        ensures within { IsCountWithin result (length into.old) }
+        ensures gives { GivesBytes result into.new (left self.old) (left self.new) }
         ensures fault { CountsFault result (faults self.old) (faults self.new) };
 }

@@ -38,19 +38,19 @@ impl Disk for SureDisk {
     ghost use Rattle.std.proofs.Common.{false, refl, ◌∙◌};
     ghost use Rattle.spb_edge.specs.SureDisk.{quiet_is};
 
-    ghost told = { λ _. true };
+    ghost is_known = { λ _. true };
 
-    ghost tells_crashes = { λ _. false };
+    ghost knows_crashes = { λ _. false };
 
     ghost image = { λ d. d.bytes };
 
     ghost size_of = { λ d. length d.bytes };
 
-    ghost may_leave = { λ _ _. Unit };
+    ghost crash_states = { λ _ _. Unit };
 
     ghost moment = { λ _. 0 };
 
-    ghost left_since = { λ _ _ _. Unit };
+    ghost crash_states_since = { λ _ _ _. Unit };
 
     ghost reads = { λ d. d.reads };
 

@@ -1,6 +1,6 @@
 //! That each call can succeed, how errors print, and worked streams.
 ghost use Rattle.std.specs.Prelude.{◌≤◌, length, OnOk};
-ghost use Rattle.spb_edge.specs.Reader.{IsOpen};
+ghost use Rattle.spb_edge.specs.Reader.{CanTakeLine};
 
 use super::*;
 use std::alloc::Global;
@@ -13,8 +13,8 @@ fn note<S: Source>(
     limit: usize,
     notes: &mut Bytes,
 ) -> Result<(), Fail>
-    requires { IsOpen reader.old }
-    ensures { OnOk result (IsOpen reader.new) }
+    requires { CanTakeLine reader.old }
+    ensures { OnOk result (CanTakeLine reader.new) }
 {
     match reader.take_line(alloc, limit)? {
         Line::Text(text) => notes.append(text.as_slice())?,

@@ -11,21 +11,21 @@ use Rattle.spb_edge.specs.declared.reader.EdgeError.TheVariants as edge
 use Rattle.spb_edge.specs.declared.reader.LineReader.{LineReader}
 use Rattle.spb_edge.specs.declared.source.Source as source
 use Rattle.spb_edge.specs.declared.sink.Sink as sink
-use Rattle.spb_edge.specs.Told.{before_told, before_told-nil, told_then, told_then-append, told_then-nil}
+use Rattle.spb_edge.specs.Known.{with_prefix, with_prefix-nil, with_suffix, with_suffix-append, with_suffix-nil}
 use Rattle.spb_edge.specs.Lines.{HasNoLf, lines_of, ended_lines}
 use Rattle.spb_edge.specs.LineLaws.{ended_lines-ended, ended_lines-none}
-use Rattle.spb_edge.specs.Reader.{unread, rest, taken, faults, has_ended, IsOpen, EndsAgain, TakesOff, IsLineAt, Spells, IsNextLine, NothingLeft}
+use Rattle.spb_edge.specs.Reader.{unread, rest, taken, faults, has_ended, CanTakeLine, EndsAgain, TakesOff, IsLineAt, IsTakenFor, IsNextLine, NothingLeft}
 use Rattle.spb_edge.specs.Reader as reads
 use Rattle.spb_defs.specs.declared.TheConstants.{LINE_LIMIT}
 use Rattle.spb_defs.specs.State.{State}
-use Rattle.spb_defs.specs.Step.{reply, next}
+use Rattle.spb_defs.specs.Step.{reply, next_state}
 use Rattle.spb_defs.specs.ReplyText.{reply_text}
 use Rattle.spb_defs.specs.Play.{play_lines, play, play_ended}
-use Rattle.spb_edge.specs.Fault.{Rose}
+use Rattle.spb_edge.specs.Fault.{HasRisen}
 use Rattle.spb_top.specs.declared.status.Status.{Status}
 use Rattle.spb_top.specs.declared.status.Status.TheVariants.{Done, Usage, NoMemory, ReadFault, WriteFault, InputLimit}
-use Rattle.spb_top.specs.Run.{WritesFront, Writes, LeavesInput, Outside, NoneFell, NoneRose, HasCause, IsDoneOrNoMemory, outside_of, stopped_by}
-use Rattle.spb_top.specs.Turns.{Leads, Leads-nowhere, Leads-next}
+use Rattle.spb_top.specs.Run.{WritesPrefix, WritesReplies, LeavesInput, Outside, NoneFell, NoneRose, HasCause, IsDoneOrNoMemory, outside_of, stopped_by}
+use Rattle.spb_top.specs.Turns.{Leads, Leads-nowhere, Leads-next_state}
 
 -- whatever follows the bytes that went, the replies to the lines that an LF ends begin with what was
 -- written: these bytes are whole lines
@@ -55,9 +55,9 @@ Plays first reader now written state = (script : List ℕ) → rest reader ≡ S
 -- whatever state there is: what was written, and what has gone of the input
 module _ {S K : Type 0} (G : source.Ghosts S) (H : sink.Ghosts K) where
   pub record Serving (reader : LineReader S G) (output : K) (now : LineReader S G) (sink : K) (written : List ℕ) : Type 0 where
-    pub wrote : H.taken sink ≡ told_then (H.taken output) written
+    pub wrote : H.taken sink ≡ with_suffix (H.taken output) written
     pub gone : (script : List ℕ) → rest reader ≡ Some script → Gone script now
-    pub is_open : IsOpen now
+    pub is_open : CanTakeLine now
     pub source : faults reader ≤ faults now
     pub sink_faults : H.faults output ≤ H.faults sink
 
@@ -77,7 +77,7 @@ module _ {S : Type 0} {G : source.Ghosts S} (reader : LineReader S G) (none : ta
 
   pub Serving-start : {K : Type 0} (H : sink.Ghosts K) (output : K) → has_ended reader ≡ false → Serving G H reader output reader output []
   Serving-start H output running = record {
-    wrote = sym (told_then-nil (H.taken output));
+    wrote = sym (with_suffix-nil (H.taken output));
     gone = Gone-start;
     is_open = record { total = omega arith; ended = λ ended. absurd (false≢true (sym running ∙ ended)) };
     source = omega arith;
@@ -112,12 +112,12 @@ last_of left None at = absurd at
 last_of left (Some left') at = at.0
 
 -- what is told begins with the front, and the rest is told too
-behind_told : (front left : List ℕ) (behind : Option (List ℕ)) → before_told front behind ≡ Some left → (back : List ℕ) × (behind ≡ Some back) × (left ≡ front ++ back)
+behind_told : (front left : List ℕ) (behind : Option (List ℕ)) → with_prefix front behind ≡ Some left → (back : List ℕ) × (behind ≡ Some back) × (left ≡ front ++ back)
 behind_told front left None at = absurd (none-some left at)
 behind_told front left (Some back) at = (back, refl, sym (some_is at))
 
 -- what is unread is part of what is left
-unread_in : (front left : List ℕ) (behind : Option (List ℕ)) → before_told front behind ≡ Some left → length front ≤ length left
+unread_in : (front left : List ℕ) (behind : Option (List ℕ)) → with_prefix front behind ≡ Some left → length front ≤ length left
 unread_in front left behind at =
     let told = behind_told front left behind at in
     let long = ap length told.2 in omega (arith, length-append front told.0)
@@ -161,14 +161,14 @@ running Long not_end again = again
 running End not_end again = not_end refl
 
 -- the bytes of a line that is answered
-pub line_at : (line : Line) (bytes : List ℕ) (left : Option (List ℕ)) (ended : Bool) → (line ≡ End → ⊥) → Spells LINE_LIMIT (Ok line) bytes left ended → IsLineAt LINE_LIMIT line bytes left ended
+pub line_at : (line : Line) (bytes : List ℕ) (left : Option (List ℕ)) (ended : Bool) → (line ≡ End → ⊥) → IsTakenFor LINE_LIMIT (Ok line) bytes left ended → IsLineAt LINE_LIMIT line bytes left ended
 line_at (Text text) bytes left ended not_end at = at
 line_at Long bytes left ended not_end at = at
 line_at End bytes left ended not_end at = absurd (not_end refl)
 
 -- one whole line more went, or the source has ended behind the last
 whole_line : (took : List ℕ) (first : State) (written : List ℕ) (state state' : State) (line : Line) (text bytes : List ℕ) (behind : Option (List ℕ)) (ended ended' : Bool)
-    → (IsTrue ended ⊎ AreWhole took first written state) → (IsTrue ended → ⊥) → IsLineAt LINE_LIMIT line bytes behind ended' → text ≡ reply_text state.space (reply state line) → state' ≡ next state line
+    → (IsTrue ended ⊎ AreWhole took first written state) → (IsTrue ended → ⊥) → IsLineAt LINE_LIMIT line bytes behind ended' → text ≡ reply_text state.space (reply state line) → state' ≡ next_state state line
     → IsTrue ended' ⊎ AreWhole (took ++ bytes) first (written ++ text) state'
 whole_line took first written state state' line text bytes behind ended ended' (inl end) not_ended how replies goes = absurd (not_ended end)
 whole_line took first written state state' line text bytes behind ended ended' (inr whole) not_ended (piece, none, is, inr last) replies goes = inl last.3
@@ -179,7 +179,7 @@ whole_line took first written state state' line text bytes behind ended ended' (
     ap (ended_lines LINE_LIMIT) cells ∙ ended_lines-ended LINE_LIMIT piece more none ∙ ap (λ l. l ∷ ended_lines LINE_LIMIT more) (sym is) in
     ap (play_ended first) (append_assoc took bytes more) ∙ whole (bytes ++ more)
     ∙ ap (λ ls. written ++ play_lines state ls) lines
-    ∙ ap (λ t. written ++ (t ++ play_lines (next state line) (ended_lines LINE_LIMIT more))) (sym replies)
+    ∙ ap (λ t. written ++ (t ++ play_lines (next_state state line) (ended_lines LINE_LIMIT more))) (sym replies)
     ∙ ap (λ st. written ++ (text ++ play_lines st (ended_lines LINE_LIMIT more))) (sym goes)
     ∙ sym (append_assoc written text (play_ended state' more)))
 
@@ -199,8 +199,8 @@ IfSome-from : {A : Type 0} {P : A → Type 0} (o : Option A) → ((x : A) → o 
 IfSome-from None h = tt
 IfSome-from (Some x) h = h x refl
 
-pub Rose-later : (before between now : ℕ) → before ≤ between → Rose between now → Rose before now
-Rose-later before between now no_less rose = omega arith
+pub HasRisen-later : (before between now : ℕ) → before ≤ between → HasRisen between now → HasRisen before now
+HasRisen-later before between now no_less rose = omega arith
 
 nothing_unread : (unread : List ℕ) → length unread ≡ 0 → unread ≡ []
 nothing_unread [] none = refl
@@ -208,25 +208,25 @@ nothing_unread (b ∷ unread) none = absurd (omega (arith, none))
 
 -- what stopped the reader says which lines were answered
 stopped_text : (e : EdgeError) (first : State) (script written left' : List ℕ) (old new : Option (List ℕ)) (behind : Option (List ℕ)) (unread : List ℕ) (before now total : ℕ)
-    → WritesFront old new (play first script) → new ≡ told_then old written → reads.HasCause (Err e) before now total (length unread)
-    → before_told unread behind ≡ Some left' → total + length left' ≡ length unread + length script
-    → (e ≡ edge.Memory → ⊥) → (took : List ℕ) × (script ≡ took ++ left') × (play_ended first took ≡ written) → Writes (stopped_by e) first script behind old new
+    → WritesPrefix old new (play first script) → new ≡ with_suffix old written → reads.HasLineCause (Err e) before now total (length unread)
+    → with_prefix unread behind ≡ Some left' → total + length left' ≡ length unread + length script
+    → (e ≡ edge.Memory → ⊥) → (took : List ℕ) × (script ≡ took ++ left') × (play_ended first took ≡ written) → WritesReplies (stopped_by e) first script behind old new
 stopped_text edge.ReadFault first script written left' old new behind unread before now total front wrote cause told count is (took, split, text) =
     let none : unread ≡ [] = nothing_unread unread cause.3 in
-    let left : behind ≡ Some left' = sym (before_told-nil behind) ∙ ap (λ xs. before_told xs behind) (sym none) ∙ told in
-    (front, (took, ap Some split ∙ ap (before_told took) (sym left), wrote ∙ ap (told_then old) (sym text)))
+    let left : behind ≡ Some left' = sym (with_prefix-nil behind) ∙ ap (λ xs. with_prefix xs behind) (sym none) ∙ told in
+    (front, (took, ap Some split ∙ ap (with_prefix took) (sym left), wrote ∙ ap (with_suffix old) (sym text)))
 stopped_text edge.InputLimit first script written left' old new behind unread before now total front wrote cause told count is (took, split, text) =
     let long : length took ≡ 2 ^ 30 = omega (arith, cause.2, count, ap length split, length-append took left') in
     let within : take (2 ^ 30) script ≡ took = ap (take (2 ^ 30)) split ∙ take_at took left' (2 ^ 30) long in
-    (front, wrote ∙ ap (told_then old) (sym text ∙ ap (play_ended first) (sym within)))
+    (front, wrote ∙ ap (with_suffix old) (sym text ∙ ap (play_ended first) (sym within)))
 stopped_text edge.Memory first script written left' old new behind unread before now total front wrote cause told count is took = absurd (is refl)
 
 stopped_cause : (e : EdgeError) (o : Outside) (between total : ℕ) (unread : List ℕ) → o.source.before ≤ between → o.sink.before ≤ o.sink.now → o.disk.before ≤ o.disk.now
-    → reads.HasCause (Err e) between o.source.now total (length unread)
+    → reads.HasLineCause (Err e) between o.source.now total (length unread)
     → ((script : List ℕ) → o.input ≡ Some script → (left : List ℕ) × (total + length left ≡ length unread + length script) × (length unread ≤ length left))
     → HasCause (stopped_by e) o
 stopped_cause edge.ReadFault o between total unread grew sink disk cause count =
-    (record { source = omega (arith, grew, cause.0); sink = sink; disk = disk }, Rose-later o.source.before between o.source.now grew cause.1)
+    (record { source = omega (arith, grew, cause.0); sink = sink; disk = disk }, HasRisen-later o.source.before between o.source.now grew cause.1)
 stopped_cause edge.InputLimit o between total unread grew sink disk cause count =
     (record { source = omega (arith, grew, cause.0); sink = sink; disk = disk }, IfSome-from o.input (λ script is. let c = count script is in omega (arith, cause.1, cause.2, c.1, c.2)))
 stopped_cause edge.Memory o between total unread grew sink disk cause count = record { source = omega (arith, grew, cause.0); sink = sink; disk = disk }
@@ -254,63 +254,63 @@ completed InputLimit o not_usage (fell, past) script told within none =
     let more : 2 ^ 30 < length script = subst (λ t. IfSome t (λ bytes. 2 ^ 30 < length bytes)) told past in absurd (omega (arith, more, within))
 
 -- a prefix of what a text is made of
-WritesFront-of : (old new : Option (List ℕ)) (written more text : List ℕ) → new ≡ told_then old written → written ++ more ≡ text → WritesFront old new text
-WritesFront-of old new written more text wrote whole =
-    (length written, wrote ∙ ap (told_then old) (sym (take_at written more (length written) refl) ∙ ap (take (length written)) whole))
+WritesPrefix-of : (old new : Option (List ℕ)) (written more text : List ℕ) → new ≡ with_suffix old written → written ++ more ≡ text → WritesPrefix old new text
+WritesPrefix-of old new written more text wrote whole =
+    (length written, wrote ∙ ap (with_suffix old) (sym (take_at written more (length written) refl) ∙ ap (take (length written)) whole))
 
 -- ---- by the state
 
 module _ {S : Type 0} {G : source.Ghosts S} (first : State) (reader now : LineReader S G) (state : State) (written : List ℕ) (plays : Plays first reader now written state) where
   -- what was written so far is a prefix of the replies to the script
-  pub front_so_far : (old new : Option (List ℕ)) → new ≡ told_then old written → (script : List ℕ) → rest reader ≡ Some script → WritesFront old new (play first script)
+  pub front_so_far : (old new : Option (List ℕ)) → new ≡ with_suffix old written → (script : List ℕ) → rest reader ≡ Some script → WritesPrefix old new (play first script)
   front_so_far old new wrote script told =
       let (gone, completes) = plays script told in
-      WritesFront-of old new written (play_lines state (lines_of LINE_LIMIT gone.left)) (play first script) wrote completes.text
+      WritesPrefix-of old new written (play_lines state (lines_of LINE_LIMIT gone.left)) (play first script) wrote completes.text
 
   module _ (new : LineReader S G) (line : Line) (text : List ℕ) (not_end : line ≡ End → ⊥) (comes : IsNextLine LINE_LIMIT line (rest now) (rest new)) (replies : text ≡ reply_text state.space (reply state line)) where
     -- one line was answered
     pub Plays-line : (bytes : List ℕ) → TakesOff now new bytes → (IsTrue (has_ended now) → EndsAgain (Ok line)) → IsLineAt LINE_LIMIT line bytes (rest new) (has_ended new)
-        → Plays first reader new (written ++ text) (next state line)
+        → Plays first reader new (written ++ text) (next_state state line)
     unfolding Gone-more
     Plays-line bytes off after how script told =
         let (gone, completes) = plays script told in
         let gone' = Gone-more script bytes now new gone off in
         let step = next_of line gone.left (rest new) not_end (subst (λ o. IsNextLine LINE_LIMIT line o (rest new)) gone.told comes) in
         let same : step.0 ≡ gone'.left = some_is (sym step.1 ∙ gone'.told) in
-        let more : play_lines state (lines_of LINE_LIMIT gone.left) ≡ text ++ play_lines (next state line) (lines_of LINE_LIMIT gone'.left) =
+        let more : play_lines state (lines_of LINE_LIMIT gone.left) ≡ text ++ play_lines (next_state state line) (lines_of LINE_LIMIT gone'.left) =
         ap (play_lines state) step.2
-        ∙ ap (λ t. t ++ play_lines (next state line) (lines_of LINE_LIMIT step.0)) (sym replies)
-        ∙ ap (λ l. text ++ play_lines (next state line) (lines_of LINE_LIMIT l)) same in (
+        ∙ ap (λ t. t ++ play_lines (next_state state line) (lines_of LINE_LIMIT step.0)) (sym replies)
+        ∙ ap (λ l. text ++ play_lines (next_state state line) (lines_of LINE_LIMIT l)) same in (
           gone',
           record {
-            text = append_assoc written text (play_lines (next state line) (lines_of LINE_LIMIT gone'.left)) ∙ ap (λ t. written ++ t) (sym more) ∙ completes.text;
-            whole = whole_line gone.took first written state (next state line) line text bytes (rest new) (has_ended now) (has_ended new) completes.whole (λ end. running line not_end (after end)) how replies refl;
+            text = append_assoc written text (play_lines (next_state state line) (lines_of LINE_LIMIT gone'.left)) ∙ ap (λ t. written ++ t) (sym more) ∙ completes.text;
+            whole = whole_line gone.took first written state (next_state state line) line text bytes (rest new) (has_ended now) (has_ended new) completes.whole (λ end. running line not_end (after end)) how replies refl;
           },
         )
 
     -- a prefix of a reply was written, and no more
-    pub front_of_reply : (old mid put : Option (List ℕ)) (n : ℕ) → mid ≡ told_then old written → put ≡ told_then mid (take n text) → (script : List ℕ) → rest reader ≡ Some script → WritesFront old put (play first script)
+    pub front_of_reply : (old mid put : Option (List ℕ)) (n : ℕ) → mid ≡ with_suffix old written → put ≡ with_suffix mid (take n text) → (script : List ℕ) → rest reader ≡ Some script → WritesPrefix old put (play first script)
     front_of_reply old mid put n wrote puts script told =
         let (gone, completes) = plays script told in
         let step = next_of line gone.left (rest new) not_end (subst (λ o. IsNextLine LINE_LIMIT line o (rest new)) gone.told comes) in
-        let behind = play_lines (next state line) (lines_of LINE_LIMIT step.0) in
+        let behind = play_lines (next_state state line) (lines_of LINE_LIMIT step.0) in
         let more : play_lines state (lines_of LINE_LIMIT gone.left) ≡ take n text ++ (drop n text ++ behind) =
         ap (play_lines state) step.2 ∙ ap (λ t. t ++ behind) (sym replies ∙ sym (take-append-drop n text)) ∙ append_assoc (take n text) (drop n text) behind in
-        WritesFront-of old put (written ++ take n text) (drop n text ++ behind) (play first script)
-        (puts ∙ ap (λ t. told_then t (take n text)) wrote ∙ told_then-append old written (take n text))
+        WritesPrefix-of old put (written ++ take n text) (drop n text ++ behind) (play first script)
+        (puts ∙ ap (λ t. with_suffix t (take n text)) wrote ∙ with_suffix-append old written (take n text))
         (append_assoc written (take n text) (drop n text ++ behind) ∙ ap (λ t. written ++ t) (sym more) ∙ completes.text)
 
   -- nothing is left: all of the replies were written
-  pub text_done : (new : LineReader S G) (old put : Option (List ℕ)) → put ≡ told_then old written → IsNextLine LINE_LIMIT End (rest now) (rest new) → (script : List ℕ) → rest reader ≡ Some script → put ≡ told_then old (play first script)
+  pub text_done : (new : LineReader S G) (old put : Option (List ℕ)) → put ≡ with_suffix old written → IsNextLine LINE_LIMIT End (rest now) (rest new) → (script : List ℕ) → rest reader ≡ Some script → put ≡ with_suffix old (play first script)
   text_done new old put wrote comes script told =
       let (gone, completes) = plays script told in
       let none : lines_of LINE_LIMIT gone.left ≡ [] = last_of gone.left (rest new) (subst (λ o. IsNextLine LINE_LIMIT End o (rest new)) gone.told comes) in
-      wrote ∙ ap (told_then old) (sym (append-nil written) ∙ ap (λ lines. written ++ play_lines state lines) (sym none) ∙ completes.text)
+      wrote ∙ ap (with_suffix old) (sym (append-nil written) ∙ ap (λ lines. written ++ play_lines state lines) (sym none) ∙ completes.text)
 
-  module _ (new : LineReader S G) (bytes : List ℕ) (off : TakesOff now new bytes) (old put : Option (List ℕ)) (wrote : put ≡ told_then old written) where
+  module _ (new : LineReader S G) (bytes : List ℕ) (off : TakesOff now new bytes) (old put : Option (List ℕ)) (wrote : put ≡ with_suffix old written) where
     -- bytes that no LF ended came, and then a fault or the limit
-    text_cut : (e : EdgeError) → reads.HasCause (Err e) (faults now) (faults new) (taken new) (length (unread new)) → HasNoLf bytes → (IsTrue (has_ended now) → ⊥) → (e ≡ edge.Memory → ⊥)
-        → (script : List ℕ) → rest reader ≡ Some script → Writes (stopped_by e) first script (G.left new.source.now) old put
+    text_cut : (e : EdgeError) → reads.HasLineCause (Err e) (faults now) (faults new) (taken new) (length (unread new)) → HasNoLf bytes → (IsTrue (has_ended now) → ⊥) → (e ≡ edge.Memory → ⊥)
+        → (script : List ℕ) → rest reader ≡ Some script → WritesReplies (stopped_by e) first script (G.left new.source.now) old put
     unfolding Gone-more
     text_cut e cause none not_ended not_memory script told =
         let (gone, completes) = plays script told in
@@ -320,30 +320,30 @@ module _ {S : Type 0} {G : source.Ghosts S} (first : State) (reader now : LineRe
         (front_so_far old put wrote script told) wrote cause gone'.told gone'.count not_memory
         (gone'.took, gone'.split, whole_and_more gone.took first written bytes state whole none)
 
-    text_by : (e : EdgeError) → reads.HasCause (Err e) (faults now) (faults new) (taken new) (length (unread new)) → HasNoLf bytes → (IsTrue (has_ended now) → EndsAgain (Err e))
-        → (script : List ℕ) → rest reader ≡ Some script → Writes (stopped_by e) first script (G.left new.source.now) old put
+    text_by : (e : EdgeError) → reads.HasLineCause (Err e) (faults now) (faults new) (taken new) (length (unread new)) → HasNoLf bytes → (IsTrue (has_ended now) → EndsAgain (Err e))
+        → (script : List ℕ) → rest reader ≡ Some script → WritesReplies (stopped_by e) first script (G.left new.source.now) old put
     text_by edge.Memory cause none again script told = front_so_far old put wrote script told
     text_by edge.ReadFault cause none again script told = text_cut edge.ReadFault cause none again (λ e. cc) script told
     text_by edge.InputLimit cause none again script told = text_cut edge.InputLimit cause none again (λ e. cc) script told
 
     -- no line came: the run ends with what stopped the reader
-    pub text_stopped : (e : EdgeError) (r : Result Line EdgeError) → r ≡ Err e → reads.HasCause r (faults now) (faults new) (taken new) (length (unread new)) → Spells LINE_LIMIT r bytes (rest new) (has_ended new) → (IsTrue (has_ended now) → EndsAgain r) → (status : Status) → status ≡ stopped_by e
-        → (script : List ℕ) → rest reader ≡ Some script → Writes status first script (G.left new.source.now) old put
+    pub text_stopped : (e : EdgeError) (r : Result Line EdgeError) → r ≡ Err e → reads.HasLineCause r (faults now) (faults new) (taken new) (length (unread new)) → IsTakenFor LINE_LIMIT r bytes (rest new) (has_ended new) → (IsTrue (has_ended now) → EndsAgain r) → (status : Status) → status ≡ stopped_by e
+        → (script : List ℕ) → rest reader ≡ Some script → WritesReplies status first script (G.left new.source.now) old put
     text_stopped e r failed cause spells after status is script told =
-        subst (λ s. Writes s first script (G.left new.source.now) old put) (sym is)
+        subst (λ s. WritesReplies s first script (G.left new.source.now) old put) (sym is)
         (text_by e
-        (subst (λ x. reads.HasCause x (faults now) (faults new) (taken new) (length (unread new))) failed cause)
-        (subst (λ x. Spells LINE_LIMIT x bytes (rest new) (has_ended new)) failed spells)
+        (subst (λ x. reads.HasLineCause x (faults now) (faults new) (taken new) (length (unread new))) failed cause)
+        (subst (λ x. IsTakenFor LINE_LIMIT x bytes (rest new) (has_ended new)) failed spells)
         (λ end. subst EndsAgain failed (after end)) script told)
 
 -- one line more
 module _ {S T : Type 0} {G : source.Ghosts S} (holds : T → State → Type 0) (leaves : T → T → State → Type 0) (joined : (a b c : T) (s t : State) → Leads s t → leaves a b s → leaves b c t → leaves a c s) where
   pub GoesOn-line : (first : State) (session : T) (reader : LineReader S G) (session' : T) (now : LineReader S G) (written : List ℕ) (on : GoesOn holds leaves first session reader session' now written)
       → (session'' : T) (new : LineReader S G) (line : Line) (text bytes : List ℕ) → (line ≡ End → ⊥) → IsNextLine LINE_LIMIT line (rest now) (rest new) → TakesOff now new bytes → (IsTrue (has_ended now) → EndsAgain (Ok line)) → IsLineAt LINE_LIMIT line bytes (rest new) (has_ended new)
-      → text ≡ reply_text on.state.space (reply on.state line) → holds session'' (next on.state line) → leaves session' session'' on.state → GoesOn holds leaves first session reader session'' new (written ++ text)
+      → text ≡ reply_text on.state.space (reply on.state line) → holds session'' (next_state on.state line) → leaves session' session'' on.state → GoesOn holds leaves first session reader session'' new (written ++ text)
   GoesOn-line first session reader session' now written on session'' new line text bytes not_end comes off after how replies held left = record {
-    state = next on.state line;
-    leads = Leads-next first on.state line on.leads;
+    state = next_state on.state line;
+    leads = Leads-next_state first on.state line on.leads;
     held = held;
     left = joined session session' session'' first on.state on.leads on.left left;
     plays = Plays-line first reader now on.state written on.plays new line text not_end comes replies bytes off after how;
@@ -362,11 +362,11 @@ stopped_is_not_done edge.Memory e = cc
 
 module _ {S K : Type 0} (G : source.Ghosts S) (H : sink.Ghosts K) (reader : LineReader S G) (output : K) (now : LineReader S G) (sink : K) (written : List ℕ) (so : Serving G H reader output now sink written) (new : LineReader S G) (bytes : List ℕ) (off : TakesOff now new bytes) where
   -- one line was answered
-  pub Serving-line : (sink' : K) (text : List ℕ) → IsOpen new → faults now ≤ faults new → H.taken sink' ≡ told_then (H.taken sink) text → H.faults sink ≤ H.faults sink' → Serving G H reader output new sink' (written ++ text)
+  pub Serving-line : (sink' : K) (text : List ℕ) → CanTakeLine new → faults now ≤ faults new → H.taken sink' ≡ with_suffix (H.taken sink) text → H.faults sink ≤ H.faults sink' → Serving G H reader output new sink' (written ++ text)
   Serving-line sink' text is_open grew puts grew' =
       let sofar = so.source in
       let sofar' = so.sink_faults in record {
-        wrote = puts ∙ ap (λ t. told_then t text) so.wrote ∙ told_then-append (H.taken output) written text;
+        wrote = puts ∙ ap (λ t. with_suffix t text) so.wrote ∙ with_suffix-append (H.taken output) written text;
         gone = λ script told. Gone-more script bytes now new (so.gone script told) off;
         is_open = is_open;
         source = omega arith;
@@ -375,10 +375,10 @@ module _ {S K : Type 0} (G : source.Ghosts S) (H : sink.Ghosts K) (reader : Line
 
   -- why the run ends with what stopped the reader
   pub cause_stopped : {T : Type 0} (disk_faults : T → ℕ) (session session' : T) → disk_faults session ≤ disk_faults session'
-      → (e : EdgeError) (r : Result Line EdgeError) → r ≡ Err e → reads.HasCause r (faults now) (faults new) (taken new) (length (unread new)) → (status : Status) → status ≡ stopped_by e
+      → (e : EdgeError) (r : Result Line EdgeError) → r ≡ Err e → reads.HasLineCause r (faults now) (faults new) (taken new) (length (unread new)) → (status : Status) → status ≡ stopped_by e
       → HasCause status (outside_of rest faults H.faults disk_faults reader new output sink session session')
   cause_stopped disk_faults session session' disk e r failed cause status is =
-      let here = subst (λ x. reads.HasCause x (faults now) (faults new) (taken new) (length (unread new))) failed cause in
+      let here = subst (λ x. reads.HasLineCause x (faults now) (faults new) (taken new) (length (unread new))) failed cause in
       let outside = outside_of rest faults H.faults disk_faults reader new output sink session session' in
       let count : (script : List ℕ) → rest reader ≡ Some script → (left : List ℕ) × (taken new + length left ≡ length (unread new) + length script) × (length (unread new) ≤ length left) = λ script told.
       let gone = so.gone script told in
@@ -406,7 +406,7 @@ module _ {S K : Type 0} (G : source.Ghosts S) (H : sink.Ghosts K) (reader : Line
       let cut : script ≡ (gone.took ++ unread new) ++ behind.0 = split_on script gone.took gone.left (unread new) behind.0 gone.split behind.2 in
       record {
         took = gone.took ++ unread new;
-        front = ap Some cut ∙ ap (before_told (gone.took ++ unread new)) (sym behind.1);
+        front = ap Some cut ∙ ap (with_prefix (gone.took ++ unread new)) (sym behind.1);
         whole = λ done. absurd (not_done done);
       }
 
@@ -419,6 +419,6 @@ module _ {S K : Type 0} (G : source.Ghosts S) (H : sink.Ghosts K) (reader : Line
       let left : G.left new.source.now ≡ Some [] = behind.1 ∙ ap Some (no_front (unread new) behind.0 (sym behind.2 ∙ none)) in
       record {
         took = script;
-        front = sym (ap (before_told script) left ∙ ap Some (append-nil script));
+        front = sym (ap (with_prefix script) left ∙ ap Some (append-nil script));
         whole = λ done. left;
       }

@@ -1,10 +1,10 @@
 -- What a run says of its input, its output and its status.
 use Rattle.std.specs.Prelude.{◌≡◌, ◌↔◌, ℕ, ◌<◌, ◌≤◌, ◌^◌, List, [], length, take, Option, Some, None, IfSome}
-use Rattle.spb_edge.specs.Told.{before_told, told_then}
+use Rattle.spb_edge.specs.Known.{with_prefix, with_suffix}
 use Rattle.spb_defs.specs.declared.MemorySetup.{MemorySetup}
 use Rattle.spb_defs.specs.State.{State, empty_in_memory}
 use Rattle.spb_defs.specs.Play.{play, play_ended}
-use Rattle.spb_edge.specs.Fault.{Rose}
+use Rattle.spb_edge.specs.Fault.{HasRisen}
 use Rattle.spb_edge.specs.declared.reader.EdgeError.{EdgeError}
 use Rattle.spb_edge.specs.declared.reader.EdgeError.TheVariants as edge
 use Rattle.spb_top.specs.declared.status.Status.{Status}
@@ -15,30 +15,30 @@ abbrev pub first_state : MemorySetup → State
 first_state setup = empty_in_memory setup.space setup.pivots
 
 -- a front of the text was written
-abbrev pub WritesFront : Option (List ℕ) → Option (List ℕ) → List ℕ → Type 0
-WritesFront old new text = (n : ℕ) × (new ≡ told_then old (take n text))
+abbrev pub WritesPrefix : Option (List ℕ) → Option (List ℕ) → List ℕ → Type 0
+WritesPrefix old new text = (n : ℕ) × (new ≡ with_suffix old (take n text))
 
 -- the replies to the lines that an LF ends among the bytes taken were written
 abbrev pub WritesEnded : State → List ℕ → Option (List ℕ) → Option (List ℕ) → Option (List ℕ) → Type 0
-WritesEnded first script left old new = (took : List ℕ) × (Some script ≡ before_told took left) × (new ≡ told_then old (play_ended first took))
+WritesEnded first script left old new = (took : List ℕ) × (Some script ≡ with_prefix took left) × (new ≡ with_suffix old (play_ended first took))
 
 -- what was written of the replies to a script, by the status: all of them on Done, nothing on Usage, and a
 -- front of them on every other status. On ReadFault and InputLimit these are the replies to the lines that
 -- an LF ends among the bytes taken, or among those within the limit. `left` is what the input has left.
-abbrev pub Writes : Status → State → List ℕ → Option (List ℕ) → Option (List ℕ) → Option (List ℕ) → Type 0
-Writes Done first script left old new = new ≡ told_then old (play first script)
-Writes Usage first script left old new = new ≡ old
-Writes NoMemory first script left old new = WritesFront old new (play first script)
-Writes ReadFault first script left old new = WritesFront old new (play first script) × WritesEnded first script left old new
-Writes WriteFault first script left old new = WritesFront old new (play first script)
-Writes InputLimit first script left old new =
-    WritesFront old new (play first script) × (new ≡ told_then old (play_ended first (take (2 ^ 30) script)))
+abbrev pub WritesReplies : Status → State → List ℕ → Option (List ℕ) → Option (List ℕ) → Option (List ℕ) → Type 0
+WritesReplies Done first script left old new = new ≡ with_suffix old (play first script)
+WritesReplies Usage first script left old new = new ≡ old
+WritesReplies NoMemory first script left old new = WritesPrefix old new (play first script)
+WritesReplies ReadFault first script left old new = WritesPrefix old new (play first script) × WritesEnded first script left old new
+WritesReplies WriteFault first script left old new = WritesPrefix old new (play first script)
+WritesReplies InputLimit first script left old new =
+    WritesPrefix old new (play first script) × (new ≡ with_suffix old (play_ended first (take (2 ^ 30) script)))
 
 -- what is left of an input that tells what it has: a front of it was taken, on Done all of it, and it goes on
 -- telling
 pub record LeavesInput (status : Status) (script : List ℕ) (left : Option (List ℕ)) : Type 0 where
   pub took : List ℕ
-  pub front : Some script ≡ before_told took left
+  pub front : Some script ≡ with_prefix took left
   pub whole : status ≡ Done → left ≡ Some []
 
 -- ---- what happened outside
@@ -73,16 +73,16 @@ pub record NoneFell (outside : Outside) : Type 0 where
 
 -- neither the source's count of faults rose nor the sink's; a store in memory touches no disk
 pub record NoneRose (outside : Outside) : Type 0 where
-  pub source : Rose outside.source.before outside.source.now → ⊥
-  pub sink : Rose outside.sink.before outside.sink.now → ⊥
+  pub source : HasRisen outside.source.before outside.source.now → ⊥
+  pub sink : HasRisen outside.sink.before outside.sink.now → ⊥
 
 -- why the run ended so
 abbrev pub HasCause : Status → Outside → Type 0
 HasCause Done outside = NoneFell outside × IfSome outside.input (λ bytes. length bytes ≤ 2 ^ 30)
 HasCause Usage outside = NoneFell outside
 HasCause NoMemory outside = NoneFell outside
-HasCause ReadFault outside = NoneFell outside × Rose outside.source.before outside.source.now
-HasCause WriteFault outside = NoneFell outside × Rose outside.sink.before outside.sink.now
+HasCause ReadFault outside = NoneFell outside × HasRisen outside.source.before outside.source.now
+HasCause WriteFault outside = NoneFell outside × HasRisen outside.sink.before outside.sink.now
 HasCause InputLimit outside = NoneFell outside × IfSome outside.input (λ bytes. 2 ^ 30 < length bytes)
 
 -- the work was done, or memory ran out

@@ -2,19 +2,19 @@
 use Rattle.std.proofs.Common.{◌≡◌, List, [], ◌∷◌, ◌++◌, refl, sym, ap, ◌∙◌}
 use Rattle.spb_edge.specs.declared.reader.Line.{Line}
 use Rattle.spb_defs.specs.State.{State}
-use Rattle.spb_defs.specs.Step.{next}
-use Rattle.spb_defs.specs.Changes.{after_lines}
+use Rattle.spb_defs.specs.Step.{next_state}
+use Rattle.spb_defs.specs.Changes.{state_after_lines}
 
 -- some lines lead from the one state to the other
 abbrev pub Leads : State → State → Type 0
-Leads s t = (lines : List Line) × (t ≡ after_lines s lines)
+Leads s t = (lines : List Line) × (t ≡ state_after_lines s lines)
 
-after_lines-push : (s : State) (lines : List Line) (line : Line) → after_lines s (lines ++ line ∷ []) ≡ next (after_lines s lines) line
-after_lines-push s [] line = refl
-after_lines-push s (first ∷ lines) line = after_lines-push (next s first) lines line
+state_after_lines-push : (s : State) (lines : List Line) (line : Line) → state_after_lines s (lines ++ line ∷ []) ≡ next_state (state_after_lines s lines) line
+state_after_lines-push s [] line = refl
+state_after_lines-push s (first ∷ lines) line = state_after_lines-push (next_state s first) lines line
 
 pub Leads-nowhere : (s : State) → Leads s s
 Leads-nowhere s = ([], refl)
 
-pub Leads-next : (s t : State) (line : Line) → Leads s t → Leads s (next t line)
-Leads-next s t line (lines, at) = (lines ++ line ∷ [], ap (λ (t : State). next t line) at ∙ sym (after_lines-push s lines line))
+pub Leads-next_state : (s t : State) (line : Line) → Leads s t → Leads s (next_state t line)
+Leads-next_state s t line (lines, at) = (lines ++ line ∷ [], ap (λ (t : State). next_state t line) at ∙ sym (state_after_lines-push s lines line))

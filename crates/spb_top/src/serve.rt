@@ -3,11 +3,11 @@ ghost use Rattle.std.specs.Prelude.{◌≡◌, ◌≢◌, ◌≤◌, ℕ, List, 
 ghost use Rattle.spb_edge.specs.Reader.{unread, rest, taken, faults, has_ended};
 ghost use Rattle.spb_edge.specs.declared.reader.Line.{Line};
 ghost use Rattle.metrics_builtin.specs.Space.{fits};
-ghost use Rattle.spb_defs.specs.Measures.{IsMetricOf};
+ghost use Rattle.spb_defs.specs.MetricOf.{IsMetricOf};
 ghost use Rattle.spb_defs.specs.State.{State};
-ghost use Rattle.spb_defs.specs.Step.{reply, next};
+ghost use Rattle.spb_defs.specs.Step.{reply, next_state};
 ghost use Rattle.spb_defs.specs.ReplyText.{reply_text};
-ghost use Rattle.spb_top.specs.Run.{Writes, LeavesInput, HasCause, outside_of, stopped_by};
+ghost use Rattle.spb_top.specs.Run.{WritesReplies, LeavesInput, HasCause, outside_of, stopped_by};
 
 use crate::status::Status;
 use crate::turns::Turns;
@@ -37,7 +37,7 @@ pub(crate) fn serve_lines<T: Turns, M: Metric, S: Source, K: Sink>(
     requires nothing_unread { unread reader.old ≡ [] }
     requires not_ended { has_ended reader.old ≡ false }
     ensures text { (first : State) → T.holds session.old first → (script : List ℕ) → rest reader.old ≡ Some script
-        → Writes result first script (S.left reader.new.source.now) (K.taken output.old) (K.taken output.new) }
+        → WritesReplies result first script (S.left reader.new.source.now) (K.taken output.old) (K.taken output.new) }
     ensures any_moment { (first : State) → T.holds session.old first → T.leaves session.old session.new first }
     ensures input { (script : List ℕ) → rest reader.old ≡ Some script → LeavesInput result script (S.left reader.new.source.now) }
     ensures cause { HasCause result (outside_of rest faults K.faults T.faults reader.old reader.new output.old output.new session.old session.new) }
@@ -80,7 +80,7 @@ fn take_turn<T: Turns, M: Metric>(
     requires open { T.ended session.old ≡ false }
     requires line { line.now ≡ Line.End → ⊥ }
     ensures text { (s : State) → T.holds session.old s → OnOk result (text.new ≡ reply_text space.now (reply s line.now)) }
-    ensures next { (s : State) → T.holds session.old s → OnOk result (T.holds session.new (next s line.now)) }
+    ensures next { (s : State) → T.holds session.old s → OnOk result (T.holds session.new (next_state s line.now)) }
     ensures any_moment { (s : State) → T.holds session.old s → T.leaves session.old session.new s }
     ensures space { T.space session.new ≡ T.space session.old }
     ensures open { OnOk result (T.ended session.new ≡ false) }

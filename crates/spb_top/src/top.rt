@@ -1,10 +1,10 @@
 //! The top call.
 ghost use Rattle.std.specs.Prelude.{◌≡◌, ◌≢◌, ◌≤◌, ℕ, List, Some, map, IsTrue};
 ghost use Rattle.std.specs.String.{string_bytes};
-ghost use Rattle.spb_defs.specs.Measures.{IsMetricOf};
+ghost use Rattle.spb_defs.specs.MetricOf.{IsMetricOf};
 ghost use Rattle.spb_defs.specs.Words.{setup_of};
 ghost use Rattle.metrics_builtin.specs.Space.{fits};
-ghost use Rattle.spb_top.specs.Run.{first_state, Asks, Writes, LeavesInput, HasCause, Completes, outside_of};
+ghost use Rattle.spb_top.specs.Run.{first_state, Asks, WritesReplies, LeavesInput, HasCause, Completes, outside_of};
 
 use crate::serve::serve_lines;
 use crate::status::Status;
@@ -26,7 +26,7 @@ fn dispatch_on_space<S: Source, K: Sink>(
     requires fits { IsTrue (fits setup.space) }
     requires few { setup.pivots ≤ 8 }
     ensures text { (script : List ℕ) → S.left input.old ≡ Some script
-        → Writes result (first_state setup) script (S.left input.new) (K.taken output.old) (K.taken output.new) }
+        → WritesReplies result (first_state setup) script (S.left input.new) (K.taken output.old) (K.taken output.new) }
     ensures input { (script : List ℕ) → S.left input.old ≡ Some script → LeavesInput result script (S.left input.new) }
     // No disk is touched, however many faults it had counted.
     ensures cause { (counted : ℕ) → HasCause result (outside_of S.left S.faults K.faults (λ (faults : ℕ). faults) input.old input.new output.old output.new counted counted) }
@@ -54,7 +54,7 @@ fn serve_input<M: Metric, S: Source, K: Sink>(
     requires few { setup.pivots ≤ 8 }
     requires metric { IsMetricOf (M.admitted metric) (M.dist metric) setup.space }
     ensures text { (script : List ℕ) → S.left input.old ≡ Some script
-        → Writes result (first_state setup) script (S.left input.new) (K.taken output.old) (K.taken output.new) }
+        → WritesReplies result (first_state setup) script (S.left input.new) (K.taken output.old) (K.taken output.new) }
     ensures input { (script : List ℕ) → S.left input.old ≡ Some script → LeavesInput result script (S.left input.new) }
     // No disk is touched, however many faults it had counted.
     ensures cause { (counted : ℕ) → HasCause result (outside_of S.left S.faults K.faults (λ (faults : ℕ). faults) input.old input.new output.old output.new counted counted) }
@@ -100,7 +100,7 @@ pub fn run<S: Source, K: Sink, D: Disk>(
     // the other statuses.
     ensures text { (setup : MemorySetup) → setup_of (map string_bytes words.now) ≡ Some setup
         → (script : List ℕ) → S.left input.old ≡ Some script
-        → Writes result (first_state setup) script (S.left input.new) (K.taken output.old) (K.taken output.new) }
+        → WritesReplies result (first_state setup) script (S.left input.new) (K.taken output.old) (K.taken output.new) }
     ensures usage { result ≡ Status.Usage → (input.new ≡ input.old) × (output.new ≡ output.old) }
     ensures input { (script : List ℕ) → S.left input.old ≡ Some script → LeavesInput result script (S.left input.new) }
 

@@ -12,9 +12,9 @@ pub(crate) trait Turns {
     ghost use Rattle.std.specs.Prelude.{◌≡◌, ℕ, ◌^◌, ◌<◌, ◌≤◌, Bool, false, Err, IfOk, OnOk};
     ghost use Rattle.spb_edge.specs.declared.reader.Line.{Line};
     ghost use Rattle.metrics_builtin.specs.declared.Space.{Space};
-    ghost use Rattle.spb_defs.specs.Measures.{IsMetricOf};
+    ghost use Rattle.spb_defs.specs.MetricOf.{IsMetricOf};
     ghost use Rattle.spb_defs.specs.State.{State};
-    ghost use Rattle.spb_defs.specs.Step.{reply, next};
+    ghost use Rattle.spb_defs.specs.Step.{reply, next_state};
     ghost use Rattle.cmd_grammar.specs.HoldsObject.{HoldsObject};
     ghost use Rattle.session.specs.declared.mem_session.Ending.{Ending};
     ghost use Rattle.spb_top.specs.Turns.{Leads};
@@ -43,7 +43,7 @@ pub(crate) trait Turns {
         requires ruler { IsMetricOf (R.admitted (R.kind ruler.old)) (R.dist (R.kind ruler.old)) (space self.old) }
         requires room { R.count ruler.old < 2 ^ 63 }
         ensures reply { (s : State) → holds self.old s → IfOk result (λ said. said ≡ reply s line.now) }
-        ensures next { (s : State) → holds self.old s → OnOk result (holds self.new (next s line.now)) }
+        ensures next { (s : State) → holds self.old s → OnOk result (holds self.new (next_state s line.now)) }
         ensures any_moment { (s : State) → holds self.old s → leaves self.old self.new s }
         ensures object { IfOk result (λ said. HoldsObject (space self.old) said) }
         ensures space { space self.new ≡ space self.old }

@@ -2,8 +2,8 @@
 ghost use Rattle.std.specs.Prelude.{◌≡◌, ◌<◌, None, length, IfOk};
 ghost use Rattle.std.specs.Io.{WritesAtMost};
 ghost use Rattle.std.specs.Io.KnownBytes.{WriteAppends, Keeps};
-ghost use Rattle.spb_edge.specs.Sink.{Takes, IsWithin, CountsFault};
-ghost use Rattle.spb_cli.specs.Streams.{WritesFront, WritesTo, CountsPut};
+ghost use Rattle.spb_edge.specs.Sink.{AppendsTaken, IsCountWithin, CountsFault};
+ghost use Rattle.spb_cli.specs.Streams.{WritesPrefix, WritesTo, CountsPut};
 
 use super::MOST_TRIES;
 use spb_edge::{Put, Sink, WriteFault};
@@ -38,8 +38,8 @@ impl<W: Write> Sink for StdSink<W> {
 
     fn put(&mut self, piece: &[u8]) -> Put
         requires { 0 < length piece.now }
-        ensures within { IsWithin result (length piece.now) }
-        ensures takes { Takes result piece.now None None }
+        ensures within { IsCountWithin result (length piece.now) }
+        ensures takes { AppendsTaken result piece.now None None }
         ensures fault { CountsFault result self.old.faults self.new.faults }
         // What the writer holds, where its bytes are known.
         ensures writes { WritesTo result (W.contents self.old.writer) (W.contents self.new.writer) piece.now }
@@ -100,7 +100,7 @@ fn write_and_flush<W: Write>(writer: &mut W, bytes: &[u8]) -> Result<usize, Writ
     requires { 0 < length bytes.now }
     ensures some { IfOk result (λ count. 0 < count) }
     ensures within { WritesAtMost result bytes.now }
-    ensures writes { WritesFront result (W.contents writer.old) (W.contents writer.new) bytes.now }
+    ensures writes { WritesPrefix result (W.contents writer.old) (W.contents writer.new) bytes.now }
 {
     let count = write_some(writer, bytes)?;
     flush(writer)?;

@@ -3,7 +3,7 @@ ghost use Rattle.std.specs.Prelude.{◌≡◌, ◌≢◌, ◌<◌, None, length,
 ghost use Rattle.std.specs.Io.{ReadsAtMost};
 ghost use Rattle.std.specs.Io.KnownBytes.{ReadConsumes};
 ghost use Rattle.std.specs.IoError.{error_kind};
-ghost use Rattle.spb_edge.specs.Source.{Gives, IsWithin, CountsFault};
+ghost use Rattle.spb_edge.specs.Source.{GivesBytes, IsCountWithin, CountsFault};
 ghost use Rattle.spb_cli.specs.Streams.{ReadsFrom, CountsTake};
 
 use super::MOST_TRIES;
@@ -37,8 +37,8 @@ impl<R: Read> Source for StdSource<R> {
 
     fn take(&mut self, into: &mut [u8]) -> Take
         requires { 0 < length into.old }
-        ensures within { IsWithin result (length into.old) }
-        ensures gives { Gives result into.new None None }
+        ensures within { IsCountWithin result (length into.old) }
+        ensures gives { GivesBytes result into.new None None }
         ensures fault { CountsFault result self.old.faults self.new.faults }
         // What the reader gave, where its bytes are known.
         ensures reads { ReadsFrom result (R.remaining self.old.reader) (R.remaining self.new.reader) into.new }

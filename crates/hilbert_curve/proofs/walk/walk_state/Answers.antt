@@ -1,7 +1,7 @@
 use Rattle.std.proofs.Common.{◌<◌, ◌+◌, ◌^◌, ◌%◌, sym, ap, subst, ◌∙◌, arith}
 use Rattle.std.specs.Int.Bits.{bit_xor, xor_lt}
 use Rattle.std.proofs.lemmas.Nat.{mod_below}
-use Rattle.hilbert_curve.specs.Curve.{turned, cell_bits, next_entry, next_direction}
+use Rattle.hilbert_curve.specs.Curve.{rotated, cell_bits, next_entry, next_direction}
 use Rattle.hilbert_curve.specs.RowLaws.{gray-lt, entry-lt, direction-lt}
 use Rattle.hilbert_curve.proofs.walk.walk_state.Goals as goal
 
@@ -26,12 +26,12 @@ overflow_add-result-2 g c =
 pub returns-clause-bits : goal.returns-clause-bits
 unfolding cell_bits
 returns-clause-bits g c =
-    ap (λ x. bit_xor x c.args.entry) (c.turned_left.ensures.turned ∙ ap (λ x. turned g.row.N x (c.args.turn + 1)) c.row_of-row.ensures.gray)
+    ap (λ x. bit_xor x c.args.entry) (c.turned_left.ensures.turned ∙ ap (λ x. rotated g.row.N x (c.args.turn + 1)) c.row_of-row.ensures.gray)
 
 pub returns-clause-next_entry : goal.returns-clause-next_entry
 unfolding next_entry
 returns-clause-next_entry g c =
-    ap (bit_xor c.args.entry) (c.turned_left-2.ensures.turned ∙ ap (λ x. turned g.row.N x (c.args.turn + 1)) c.row_of-row.ensures.entry)
+    ap (bit_xor c.args.entry) (c.turned_left-2.ensures.turned ∙ ap (λ x. rotated g.row.N x (c.args.turn + 1)) c.row_of-row.ensures.entry)
 
 pub returns-clause-next_turn : goal.returns-clause-next_turn
 unfolding next_direction

@@ -1,11 +1,11 @@
 use Rattle.std.proofs.Common.{◌≡◌, ◌+◌, ◌≤◌, take}
 use Rattle.std.specs.Prelude.{sum_by}
 use Rattle.std.specs.List.{AllByRecursion}
-use Rattle.metric_laws.specs.Log.{Grew, each_with}
+use Rattle.metric_laws.specs.Log.{LogExtends, each_with}
 use Rattle.nn_query.specs.Items.{items_of}
 use Rattle.nn_query.specs.Least.{least_of}
-use Rattle.nn_query.specs.Queue.{weight_of, waiting}
-use Rattle.nn_query.specs.Visits.{objects_at, CanVisit, AreBounds, reached}
+use Rattle.nn_query.specs.Queue.{weight_of, queued_candidates}
+use Rattle.nn_query.specs.Visits.{objects_at, CanVisit, AreBounds, nodes_in_reach}
 use Rattle.nn_query.proofs.Turns.{Looked}
 use Rattle.nn_query.proofs.near.visit_in_order.Given as goal
 
@@ -18,7 +18,7 @@ invariant-loop-first g l =
     let nodes = g.H.Hierarchy.nodes content in
     let is_sound = g.H.Hierarchy.is_sound content in
     let items = items_of l.fn.queue in
-    let cs = waiting nodes items in
+    let cs = queued_candidates nodes items in
     record {
       kept : g.H.Hierarchy.content l.held ≡ content;
       most : l.best.most ≡ l.fn.best.most;
@@ -27,8 +27,8 @@ invariant-loop-first g l =
       visitable : AllByRecursion (CanVisit (g.H.Hierarchy.can_open content) (g.H.Hierarchy.can_measure content)) (items_of l.queue);
       light : l.seen.measured + l.seen.opened + sum_by (weight_of nodes) (items_of l.queue) ≤ sum_by (weight_of nodes) items;
       looked : AreBounds dist object_at l.fn.q nodes is_sound items
-          → Looked dist object_at l.fn.q nodes is_sound l.fn.best.most cs l.seen.measured (least_of l.best) (items_of l.queue) l.seen.opened (reached dist object_at l.fn.q nodes l.fn.best.most items);
-      logged : AreBounds dist object_at l.fn.q nodes is_sound items → Grew (g.R.Ruler.log l.fn.ruler) (g.R.Ruler.log l.ruler) (each_with l.fn.q (objects_at object_at (take l.seen.measured cs)));
+          → Looked dist object_at l.fn.q nodes is_sound l.fn.best.most cs l.seen.measured (least_of l.best) (items_of l.queue) l.seen.opened (nodes_in_reach dist object_at l.fn.q nodes l.fn.best.most items);
+      logged : AreBounds dist object_at l.fn.q nodes is_sound items → LogExtends (g.R.Ruler.log l.fn.ruler) (g.R.Ruler.log l.ruler) (each_with l.fn.q (objects_at object_at (take l.seen.measured cs)));
     }
 
 abbrev pub decreases-loop-first : goal.decreases-loop-first

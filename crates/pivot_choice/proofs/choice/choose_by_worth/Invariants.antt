@@ -1,5 +1,5 @@
 use Rattle.std.proofs.Common.{◌≡◌, ℕ, ◌+◌, length}
-use Rattle.metric_laws.specs.Log.{Grew}
+use Rattle.metric_laws.specs.Log.{LogExtends}
 use Rattle.spb_defs.specs.Choice.{choice_evals}
 use Rattle.pivot_choice.specs.Worths.{choice_visits}
 use Rattle.pivot_choice.proofs.Choosing.{Choosing}
@@ -15,4 +15,4 @@ invariant-loop g l =
     × Choosing dist l.sample before l.worths l.places l.chosen
     × (g.R.Ruler.kind l.ruler ≡ kind)
     × (g.R.Ruler.count l.ruler ≡ g.R.Ruler.count l.fn.ruler + choice_evals (length l.sample) l.counter)
-    × Grew (g.R.Ruler.log l.fn.ruler) (g.R.Ruler.log l.ruler) (choice_visits dist l.sample l.counter)
+    × LogExtends (g.R.Ruler.log l.fn.ruler) (g.R.Ruler.log l.ruler) (choice_visits dist l.sample l.counter)

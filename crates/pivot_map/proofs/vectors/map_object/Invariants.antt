@@ -1,5 +1,5 @@
 use Rattle.std.proofs.Common.{◌≡◌, ◌+◌, length, take}
-use Rattle.metric_laws.specs.Log.{Grew, each_with}
+use Rattle.metric_laws.specs.Log.{LogExtends, each_with}
 use Rattle.spb_defs.specs.Pivots.{vector_of}
 use Rattle.pivot_map.proofs.vectors.map_object.Given as goal
 
@@ -13,4 +13,4 @@ invariant-loop-pivot g l =
     × (take l.known l.at ≡ vector_of (g.R.Ruler.dist kind) seen l.fn.object)
     × (g.R.Ruler.kind l.ruler ≡ kind)
     × (g.R.Ruler.count l.ruler ≡ g.R.Ruler.count l.fn.ruler + l.pivot-index)
-    × Grew (g.R.Ruler.log l.fn.ruler) (g.R.Ruler.log l.ruler) (each_with l.fn.object seen)
+    × LogExtends (g.R.Ruler.log l.fn.ruler) (g.R.Ruler.log l.ruler) (each_with l.fn.object seen)

@@ -1,5 +1,5 @@
 use Rattle.std.proofs.Common.{◌≡◌, take}
-use Rattle.query_pass.specs.Findings.{Finds, Measures}
+use Rattle.query_pass.specs.Findings.{PassesOver, MeasuresOpen}
 use Rattle.range_query.specs.Passes.{verdict_of_row}
 use Rattle.range_query.proofs.range.range_rows.Given as goal
 
@@ -10,6 +10,6 @@ invariant-loop-row g l =
     let kind = ruler.kind l.fn.ruler in
     let seen = take l.row-index l.rows in record {
       same_kind : ruler.kind l.ruler ≡ kind;
-      found : Finds (verdict_of_row (ruler.dist kind) l.asked l.q l.r) (λ row. row.id) seen l.initial.found l.found;
-      measured : Measures (verdict_of_row (ruler.dist kind) l.asked l.q l.r) (λ row. (l.q, row.object)) seen (ruler.count l.initial.ruler) (ruler.log l.initial.ruler) (ruler.count l.ruler) (ruler.log l.ruler);
+      found : PassesOver (verdict_of_row (ruler.dist kind) l.asked l.q l.r) (λ row. row.id) seen l.initial.found l.found;
+      measured : MeasuresOpen (verdict_of_row (ruler.dist kind) l.asked l.q l.r) (λ row. (l.q, row.object)) seen (ruler.count l.initial.ruler) (ruler.log l.initial.ruler) (ruler.count l.ruler) (ruler.log l.ruler);
     }

@@ -1,6 +1,6 @@
 use Rattle.std.proofs.Common.{rules, ◌<◌, ℕ, ◌+◌, ◌-◌, ◌*◌, List, subst, sym, arith, refl}
 use Rattle.std.proofs.lemmas.Bool.{false≢true}
-use Rattle.redo_journal.specs.Header.{IsCount, count_of}
+use Rattle.redo_journal.specs.Header.{IsCount, image_count}
 use Rattle.redo_journal.proofs.Headers.{HasRead, number_at, reads_none, reads_bad, reads_good}
 use Rattle.redo_journal.proofs.header.read_header.Goals as goal
 
@@ -11,7 +11,7 @@ pub returns-then-not-is_next-clause-bad : goal.returns-then-not-is_next-clause-b
 returns-then-not-is_next-clause-bad c =
     let far : c.loop-place.place < 80 = search rules in
     let number = number_at _ (8 + 4 * c.loop-place.place) (512 - (8 + 4 * c.loop-place.place)) _ (omega (arith, far)) c.number_in-number.ensures in
-    let count : IsCount (count_of c.args.header.now) = search rules in
+    let count : IsCount (image_count c.args.header.now) = search rules in
     (count, reads_bad _ _ _ _ _ _ _ c.loop-place.invariant c.loop-place-test.true number (λ next. false≢true (c.if-not-is_next.ensures.1 next)))
 
 pub loop-place-preserved : goal.loop-place-preserved

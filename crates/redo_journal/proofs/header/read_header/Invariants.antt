@@ -1,5 +1,5 @@
 use Rattle.std.proofs.Common.{◌≡◌, length, ◌+◌, ◌-◌, ◌*◌, ◌++◌, drop}
-use Rattle.redo_journal.specs.Header.{numbers_in, named, AreHomes}
+use Rattle.redo_journal.specs.Header.{numbers_in, page_numbers, AreHomes}
 use Rattle.redo_journal.proofs.Headers.{last_of}
 use Rattle.redo_journal.proofs.header.read_header.Given as goal
 
@@ -7,6 +7,6 @@ use Rattle.redo_journal.proofs.header.read_header.Given as goal
 abbrev pub invariant-loop-place : goal.invariant-loop-place
 invariant-loop-place l =
     (length l.numbers.items ≡ l.place)
-    × (l.numbers.items ++ numbers_in (l.count - l.place) (drop (8 + 4 * l.place) l.header) ≡ named l.header)
+    × (l.numbers.items ++ numbers_in (l.count - l.place) (drop (8 + 4 * l.place) l.header) ≡ page_numbers l.header)
     × AreHomes l.total 0 l.numbers.items
     × (l.last ≡ last_of 0 l.numbers.items)

@@ -1,6 +1,6 @@
 use Rattle.std.proofs.Common.{◌≡◌, ◌+◌, ◌*◌, ◌<◌, ◌≤◌, ℕ, IsTrue, length, subst, sym, ◌∙◌, ap}
 use Rattle.std.proofs.lemmas.Result.{on_ok_weaker}
-use Rattle.spb_edge.specs.Crash.{Torn, LeavesOnly}
+use Rattle.spb_edge.specs.Crash.{IsTornWrite, CrashesLeaveOnly}
 use Rattle.std.specs.Map.{keys_of}
 use Rattle.redo_journal.specs.Header.{header_page}
 use Rattle.redo_journal.proofs.Runs.{HasBody, has_body, committed_so_far, committed, commits}
@@ -11,8 +11,8 @@ returns-in_err-write_and_keep-clause-any_moment g c = λ tells crashes only mark
     let pages = c.args.staged.now.pages in
     let few : length pages ≤ 80 = subst (λ l. length l ≤ 80) c.seal.ensures.same c.body.ensures.sound.few in
     let long : length c.body.result.now ≡ 512 * (1 + length pages) = c.body.ensures.long ∙ ap (λ l. 512 * (1 + length l)) c.seal.ensures.same in
-    committed_so_far g.D.Disk.moment g.D.Disk.left_since g.D.Disk.image g.D.Disk.may_leave c.args.staged.now.total pages marks home c.args.disk.now c.write_and_keep.new.disk stands closed few
-    (subst (λ (m : ℕ). LeavesOnly g.D.Disk.moment g.D.Disk.left_since c.args.disk.now c.write_and_keep.new.disk (Torn 2048 m (g.D.Disk.image c.args.disk.now))) long (c.write_and_keep.ensures.any_moment only))
+    committed_so_far g.D.Disk.moment g.D.Disk.crash_states_since g.D.Disk.image g.D.Disk.crash_states c.args.staged.now.total pages marks home c.args.disk.now c.write_and_keep.new.disk stands closed few
+    (subst (λ (m : ℕ). CrashesLeaveOnly g.D.Disk.moment g.D.Disk.crash_states_since c.args.disk.now c.write_and_keep.new.disk (IsTornWrite 2048 m (g.D.Disk.image c.args.disk.now))) long (c.write_and_keep.ensures.any_moment only))
 
 pub returns-clause-any_moment : goal.returns-clause-any_moment
 returns-clause-any_moment g c = λ tells crashes only marks home stands closed.
@@ -30,10 +30,10 @@ returns-clause-any_moment g c = λ tells crashes only marks home stands closed.
     subst (λ (t : ℕ). HasBody t pages start written) c.seal.ensures.total (subst (λ l. HasBody sealed.total l start written) c.seal.ensures.same as_sealed) in
     let few : length pages ≤ 80 = subst (λ l. length l ≤ 80) c.seal.ensures.same c.body.ensures.sound.few in
     let long : length c.body.result.now ≡ 512 * (1 + length pages) = c.body.ensures.long ∙ ap (λ l. 512 * (1 + length l)) c.seal.ensures.same in
-    let so_far = committed_so_far g.D.Disk.moment g.D.Disk.left_since g.D.Disk.image g.D.Disk.may_leave total pages marks home c.args.disk.now c.write_and_keep.new.disk stands closed few
-    (subst (λ (m : ℕ). LeavesOnly g.D.Disk.moment g.D.Disk.left_since c.args.disk.now c.write_and_keep.new.disk (Torn 2048 m start)) long (c.write_and_keep.ensures.any_moment only)) in
+    let so_far = committed_so_far g.D.Disk.moment g.D.Disk.crash_states_since g.D.Disk.image g.D.Disk.crash_states total pages marks home c.args.disk.now c.write_and_keep.new.disk stands closed few
+    (subst (λ (m : ℕ). CrashesLeaveOnly g.D.Disk.moment g.D.Disk.crash_states_since c.args.disk.now c.write_and_keep.new.disk (IsTornWrite 2048 m start)) long (c.write_and_keep.ensures.any_moment only)) in
     let then = body.stands marks home stands closed in
-    committed g.D.Disk.moment g.D.Disk.left_since g.D.Disk.image g.D.Disk.may_leave total pages marks home c.args.disk.now c.write_and_keep.new.disk c.write_and_keep-2.new.disk so_far then.0 then.1
+    committed g.D.Disk.moment g.D.Disk.crash_states_since g.D.Disk.image g.D.Disk.crash_states total pages marks home c.args.disk.now c.write_and_keep.new.disk c.write_and_keep-2.new.disk so_far then.0 then.1
     body.is_written (c.write_and_keep-2.ensures.any_moment (c.in_ok-write_and_keep.ensures.kept tells crashes))
 
 pub returns-clause-commits : goal.returns-clause-commits

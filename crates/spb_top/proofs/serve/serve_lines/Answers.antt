@@ -1,12 +1,12 @@
 use Rattle.std.proofs.Common.{◌≡◌, [], ◌++◌, Ok, refl, subst, sym, ap, ◌∙◌, arith}
-use Rattle.spb_edge.specs.Reader.{rest, has_ended, Spells, IsNextLine}
+use Rattle.spb_edge.specs.Reader.{rest, has_ended, IsTakenFor, IsNextLine}
 use Rattle.spb_defs.specs.declared.TheConstants.{LINE_LIMIT}
 use Rattle.spb_top.specs.declared.status.Status.TheVariants.{NoMemory, WriteFault}
 use Rattle.std.proofs.lemmas.Bool.{false≢true}
 use Rattle.spb_edge.specs.declared.reader.Line.TheVariants.{End}
 use Rattle.spb_defs.specs.Step.{reply}
 use Rattle.spb_defs.specs.ReplyText.{reply_text}
-use Rattle.spb_top.proofs.Running.{Serving-start, GoesOn-start, Serving-line, GoesOn-line, front_so_far, front_of_reply, line_at, text_done, text_stopped, cause_done, cause_stopped, Rose-later, LeavesInput-front, LeavesInput-done, stopped_is_not_done}
+use Rattle.spb_top.proofs.Running.{Serving-start, GoesOn-start, Serving-line, GoesOn-line, front_so_far, front_of_reply, line_at, text_done, text_stopped, cause_done, cause_stopped, HasRisen-later, LeavesInput-front, LeavesInput-done, stopped_is_not_done}
 use Rattle.spb_top.proofs.serve.serve_lines.Goals as goal
 
 -- ---- memory runs out before the first line
@@ -104,7 +104,7 @@ returns-then-is_end-clause-input g c =
     let (written, kept) = c.loop-line.invariant in
     let consumed = c.in-Ok-take_line.ensures.consumed in
     let end = c.is_end.ensures.0 c.if-is_end.true in
-    let spells = subst (λ line. Spells LINE_LIMIT (Ok line) consumed.0 (rest c.take_line.new.self) (has_ended c.take_line.new.self)) end consumed.2 in
+    let spells = subst (λ line. IsTakenFor LINE_LIMIT (Ok line) consumed.0 (rest c.take_line.new.self) (has_ended c.take_line.new.self)) end consumed.2 in
     LeavesInput-done g.S.Source g.K.Sink c.args.reader.now c.args.output.now c.loop-line.reader c.loop-line.output written kept.serving c.take_line.new.self consumed.0 consumed.1 spells.1
 
 pub returns-then-is_end-clause-cause : goal.returns-then-is_end-clause-cause
@@ -113,7 +113,7 @@ returns-then-is_end-clause-cause g c =
     let consumed = c.in-Ok-take_line.ensures.consumed in
     let read = c.in-Ok-take_line.ensures.cause in
     let end = c.is_end.ensures.0 c.if-is_end.true in
-    let spells = subst (λ line. Spells LINE_LIMIT (Ok line) consumed.0 (rest c.take_line.new.self) (has_ended c.take_line.new.self)) end consumed.2 in
+    let spells = subst (λ line. IsTakenFor LINE_LIMIT (Ok line) consumed.0 (rest c.take_line.new.self) (has_ended c.take_line.new.self)) end consumed.2 in
     cause_done g.S.Source g.K.Sink c.args.reader.now c.args.output.now c.loop-line.reader c.loop-line.output written kept.serving c.take_line.new.self consumed.0 consumed.1
     g.T.Turns.faults c.args.session.now c.loop-line.session kept.disk read.0 read.1 spells.1
 
@@ -199,4 +199,4 @@ returns-in_default-put_all-clause-cause g c =
     let sink = kept.serving.sink_faults in
     let disk = kept.disk in
     let turn = c.take_turn.ensures.faults in
-    (record { source = omega (arith, source, read.0); sink = omega (arith, sink, wrote.0); disk = omega (arith, disk, turn) }, Rose-later _ _ _ sink wrote.1)
+    (record { source = omega (arith, source, read.0); sink = omega (arith, sink, wrote.0); disk = omega (arith, disk, turn) }, HasRisen-later _ _ _ sink wrote.1)

@@ -1,12 +1,12 @@
 use Rattle.std.proofs.Common.{subst, sym, ◌∙◌}
-use Rattle.spb_top.specs.Run.{first_state, Writes, outside_of}
+use Rattle.spb_top.specs.Run.{first_state, WritesReplies, outside_of}
 use Rattle.spb_top.proofs.Running.{some_is, completed}
 use Rattle.spb_top.proofs.top.run.Goals as goal
 
 pub returns-in-Some-clause-text : goal.returns-in-Some-clause-text
 returns-in-Some-clause-text g c = λ setup asks script told.
     let is = some_is (sym c.in-Some.is ∙ c.read_words.ensures.exact ∙ asks) in
-    subst (λ s. Writes c.dispatch_on_space.result (first_state s) script (g.S.Source.left c.dispatch_on_space.new.input) (g.K.Sink.taken c.args.output.now) (g.K.Sink.taken c.dispatch_on_space.new.output)) is (c.dispatch_on_space.ensures.text script told)
+    subst (λ s. WritesReplies c.dispatch_on_space.result (first_state s) script (g.S.Source.left c.dispatch_on_space.new.input) (g.K.Sink.taken c.args.output.now) (g.K.Sink.taken c.dispatch_on_space.new.output)) is (c.dispatch_on_space.ensures.text script told)
 
 pub returns-in-Some-clause-cause : goal.returns-in-Some-clause-cause
 returns-in-Some-clause-cause g c = c.dispatch_on_space.ensures.cause (g.D.Disk.faults c.args.disk.now)

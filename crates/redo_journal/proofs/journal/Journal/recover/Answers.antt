@@ -10,4 +10,4 @@ returns-clause-closed g c = λ tells. recovers_closed _ c.recover_staged.result 
 
 pub returns-clause-any_moment : goal.returns-clause-any_moment
 returns-clause-any_moment g c = λ tells crashes only marks home stands.
-    stood g.D.Disk.moment g.D.Disk.left_since _ _ _ _ _ marks home only stands (c.recover_staged.ensures.any_start tells crashes marks home stands)
+    stood g.D.Disk.moment g.D.Disk.crash_states_since _ _ _ _ _ marks home only stands (c.recover_staged.ensures.any_start tells crashes marks home stands)

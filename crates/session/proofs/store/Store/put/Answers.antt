@@ -2,13 +2,13 @@ use Rattle.std.proofs.Common.{◌≡◌, ℕ, List, ◌++◌, ◌∷◌, [], sym
 use Rattle.metrics_builtin.specs.Space.{dist}
 use Rattle.spb_defs.specs.Pivots.{vector_of, cells_of}
 use Rattle.pivot_map.specs.declared.row.Row.{Row}
-use Rattle.session.specs.Store.{IsSound}
+use Rattle.session.specs.Store.{IsStore}
 use Rattle.session.proofs.Sound.{at_place, same_store, put_state, put_sound}
 use Rattle.session.proofs.store.Store.put.Goals as goal
 
 pub returns-in_err-insert-clause-sound : goal.returns-in_err-insert-clause-sound
 returns-in_err-insert-clause-sound g c =
-    subst IsSound (sym (same_store c.args.self.now c.requires.sound c.args.c c.requires.collection c.index-self-c.result c.insert.new.self c.in_err-insert.ensures.err)) c.requires.sound
+    subst IsStore (sym (same_store c.args.self.now c.requires.sound c.args.c c.requires.collection c.index-self-c.result c.insert.new.self c.in_err-insert.ensures.err)) c.requires.sound
 
 pub returns-clause-members : goal.returns-clause-members
 returns-clause-members g c =

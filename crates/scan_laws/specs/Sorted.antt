@@ -14,8 +14,8 @@ use Rattle.std.proofs.lemmas.List.Sorted.{IsPermutation-map}
 use Rattle.std.proofs.lemmas.Map.Keys.{IsDistinct-head, IsDistinct-tail, IsDistinct-IsPermutation, apart_from_distinct}
 use Rattle.std.proofs.lemmas.Map.Lookups.{CmpEqualImpliesEq}
 use Rattle.std.proofs.lemmas.List.{length-map, get_or-map}
-use Rattle.answer_lists.specs.Order.{placed, arranged}
-use Rattle.answer_lists.specs.OrderLaws.{IsOrder, HasDistinct, arranged_by-same}
+use Rattle.answer_lists.specs.Order.{with_inserted, sorted_by}
+use Rattle.answer_lists.specs.OrderLaws.{IsStrictOrder, HasDistinctKeys, arranged_by-same}
 
 -- ---- tests by a key
 
@@ -103,7 +103,7 @@ module _ {K : Type 0} {R : K → K → Ordering} (o : IsTotalOrder R) where
   one_key exact x y Equal is h k = exact x y is
   one_key exact x y Greater is h k = absurd (true≢false (sym (ap is_lt (turned x y) ∙ ap (λ r. is_lt (ordering_reverse r)) is) ∙ k))
 
-  order_of : CmpEqualImpliesEq R → IsOrder (λ x y. is_lt (R x y))
+  order_of : CmpEqualImpliesEq R → IsStrictOrder (λ x y. is_lt (R x y))
   order_of exact = record {
     never_itself = λ x. ap is_lt (equal (R x x) (itself x));
     transitive = through;
@@ -124,15 +124,15 @@ module _ {K X : Type 0} {R : K → K → Ordering} (o : IsTotalOrder R) where
         ap (λ rest. cond (is_eq (R q e.0)) (Some e.1) rest) h ∙ either_first (is_eq (R q e.0)) (is_eq (R q x.0)) e.1 x.1 (lookup (is_at (R q)) es) (not_both o q e.0 x.0 is)
     looked_if false x e es more is h = refl
 
-    lookup-placed : (x : K × X) (es : List (K × X)) → lookup (is_at (R q)) (placed before x es) ≡ lookup (is_at (R q)) (x ∷ es)
-    lookup-placed x [] = refl
-    lookup-placed x (e ∷ es) = looked_if (before e x) x e es (placed before x es) refl (lookup-placed x es)
+    lookup-with_inserted : (x : K × X) (es : List (K × X)) → lookup (is_at (R q)) (with_inserted before x es) ≡ lookup (is_at (R q)) (x ∷ es)
+    lookup-with_inserted x [] = refl
+    lookup-with_inserted x (e ∷ es) = looked_if (before e x) x e es (with_inserted before x es) refl (lookup-with_inserted x es)
 
     -- the same is found in the arranged entries
-    pub lookup-arranged : (es : List (K × X)) → lookup (is_at (R q)) (arranged before es) ≡ lookup (is_at (R q)) es
-    unfolding arranged
-    lookup-arranged [] = refl
-    lookup-arranged (e ∷ es) = lookup-placed e (arranged before es) ∙ ap (λ rest. cond (is_eq (R q e.0)) (Some e.1) rest) (lookup-arranged es)
+    pub lookup-sorted_by : (es : List (K × X)) → lookup (is_at (R q)) (sorted_by before es) ≡ lookup (is_at (R q)) es
+    unfolding sorted_by
+    lookup-sorted_by [] = refl
+    lookup-sorted_by (e ∷ es) = lookup-with_inserted e (sorted_by before es) ∙ ap (λ rest. cond (is_eq (R q e.0)) (Some e.1) rest) (lookup-sorted_by es)
 
   -- ---- entries of other keys are arranged alike in any order
 
@@ -141,7 +141,7 @@ module _ {K X : Type 0} {R : K → K → Ordering} (o : IsTotalOrder R) where
   distinct-moved xs ys h d = IsDistinct-IsPermutation (eq_by_cmp R) (eq_by_cmp_equiv o).symm (keys_of xs) (keys_of ys) (IsPermutation-map (λ (e : K × X). e.0) xs ys h) d
 
   -- other keys by the order are other keys
-  other_keys : (xs : List (K × X)) → IsDistinct (eq_by_cmp R) (keys_of xs) → HasDistinct (λ (e : K × X). e.0) xs
+  other_keys : (xs : List (K × X)) → IsDistinct (eq_by_cmp R) (keys_of xs) → HasDistinctKeys (λ (e : K × X). e.0) xs
   other_keys xs apart = λ i j d less inside same.
       let long : length (keys_of xs) ≡ length xs = length-map xs (λ (e : K × X). e.0) in
       let differ : eq_by_cmp R (get_or (keys_of xs) i d.0) (get_or (keys_of xs) j d.0) ≡ false = apart_from_distinct (eq_by_cmp R) (keys_of xs) i j d.0 apart less (omega (arith, inside, long)) in
@@ -151,8 +151,8 @@ module _ {K X : Type 0} {R : K → K → Ordering} (o : IsTotalOrder R) where
       true≢false (sym (itself o (get_or (keys_of xs) i d.0)) ∙ ap (λ k. eq_by_cmp R (get_or (keys_of xs) i d.0) k) (sym one) ∙ differ)
 
   -- the order in which they come is nothing to their arrangement
-  pub arranged-same_keys : CmpEqualImpliesEq R → (xs ys : List (K × X)) → IsPermutation xs ys → IsDistinct (eq_by_cmp R) (keys_of xs) → arranged before xs ≡ arranged before ys
-  arranged-same_keys exact xs ys h d = arranged_by-same (λ x y. is_lt (R x y)) (order_of o exact) (λ (e : K × X). e.0) xs ys h (other_keys xs d)
+  pub sorted_by-same_keys : CmpEqualImpliesEq R → (xs ys : List (K × X)) → IsPermutation xs ys → IsDistinct (eq_by_cmp R) (keys_of xs) → sorted_by before xs ≡ sorted_by before ys
+  sorted_by-same_keys exact xs ys h d = arranged_by-same (λ x y. is_lt (R x y)) (order_of o exact) (λ (e : K × X). e.0) xs ys h (other_keys xs d)
 
   -- ---- one entry more
 
@@ -162,16 +162,16 @@ module _ {K X : Type 0} {R : K → K → Ordering} (o : IsTotalOrder R) where
   inserted_by Equal k v e es front more h rest = absurd (found e.1 h)
   inserted_by Greater k v e es front more h rest = ap (λ l. e ∷ l) (rest h)
 
-  placed-absent : (k : K) (v : X) (es : List (K × X)) → lookup (is_at (R k)) es ≡ None → placed before (k, v) es ≡ insert_entry R es k v
-  placed-absent k v [] h = refl
-  placed-absent k v (e ∷ es) h =
-      ap (λ r. if is_lt r then e ∷ placed before (k, v) es else (k, v) ∷ e ∷ es) (turned o k e.0)
-      ∙ inserted_by (R k e.0) k v e es (placed before (k, v) es) (insert_entry R es k v) h (placed-absent k v es)
+  with_inserted-absent : (k : K) (v : X) (es : List (K × X)) → lookup (is_at (R k)) es ≡ None → with_inserted before (k, v) es ≡ insert_entry R es k v
+  with_inserted-absent k v [] h = refl
+  with_inserted-absent k v (e ∷ es) h =
+      ap (λ r. if is_lt r then e ∷ with_inserted before (k, v) es else (k, v) ∷ e ∷ es) (turned o k e.0)
+      ∙ inserted_by (R k e.0) k v e es (with_inserted before (k, v) es) (insert_entry R es k v) h (with_inserted-absent k v es)
 
   -- an entry of another key than the others is inserted
-  pub arranged-inserted : (k : K) (v : X) (es : List (K × X)) → lookup (is_at (R k)) es ≡ None → arranged before ((k, v) ∷ es) ≡ insert_entry R (arranged before es) k v
-  unfolding arranged
-  arranged-inserted k v es h = placed-absent k v (arranged before es) (lookup-arranged k es ∙ h)
+  pub sorted_by-inserted : (k : K) (v : X) (es : List (K × X)) → lookup (is_at (R k)) es ≡ None → sorted_by before ((k, v) ∷ es) ≡ insert_entry R (sorted_by before es) k v
+  unfolding sorted_by
+  sorted_by-inserted k v es h = with_inserted-absent k v (sorted_by before es) (lookup-sorted_by k es ∙ h)
 
   -- ---- one entry less
 
@@ -180,15 +180,15 @@ module _ {K X : Type 0} {R : K → K → Ordering} (o : IsTotalOrder R) where
     removed_if true x e es more here other h = ap (λ b. cond b more (e ∷ remove_entry test more)) other ∙ ap (λ l. e ∷ l) h
     removed_if false x e es more here other h = ap (λ b. cond b (e ∷ es) (x ∷ remove_entry test (e ∷ es))) here
 
-    placed-removed : (x : K × X) (es : List (K × X)) → test x.0 ≡ true → lookup test es ≡ None → remove_entry test (placed before x es) ≡ es
-    placed-removed x [] here h = ap (λ b. cond b [] (x ∷ [])) here
-    placed-removed x (e ∷ es) here h =
-        removed_if (before e x) x e es (placed before x es) here (not_first (test e.0) e.1 (lookup test es) h) (placed-removed x es here (not_later (test e.0) e.1 (lookup test es) h))
+    with_inserted-removed : (x : K × X) (es : List (K × X)) → test x.0 ≡ true → lookup test es ≡ None → remove_entry test (with_inserted before x es) ≡ es
+    with_inserted-removed x [] here h = ap (λ b. cond b [] (x ∷ [])) here
+    with_inserted-removed x (e ∷ es) here h =
+        removed_if (before e x) x e es (with_inserted before x es) here (not_first (test e.0) e.1 (lookup test es) h) (with_inserted-removed x es here (not_later (test e.0) e.1 (lookup test es) h))
 
   -- an entry of another key than the others is taken out
-  pub arranged-removed : (k : K) (v : X) (es : List (K × X)) → lookup (is_at (R k)) es ≡ None → remove_entry (is_at (R k)) (arranged before ((k, v) ∷ es)) ≡ arranged before es
-  unfolding arranged
-  arranged-removed k v es h = placed-removed (is_at (R k)) (k, v) (arranged before es) (itself o k) (lookup-arranged k es ∙ h)
+  pub sorted_by-removed : (k : K) (v : X) (es : List (K × X)) → lookup (is_at (R k)) es ≡ None → remove_entry (is_at (R k)) (sorted_by before ((k, v) ∷ es)) ≡ sorted_by before es
+  unfolding sorted_by
+  sorted_by-removed k v es h = with_inserted-removed (is_at (R k)) (k, v) (sorted_by before es) (itself o k) (lookup-sorted_by k es ∙ h)
 
   -- ---- the arranged keys rise
 
@@ -196,28 +196,28 @@ module _ {K X : Type 0} {R : K → K → Ordering} (o : IsTotalOrder R) where
   all_if P true x e es more p q all others = (q, others)
   all_if P false x e es more p q all others = (p, (q, all))
 
-  all-placed : (P : K → Type 0) (x : K × X) (es : List (K × X)) → P x.0 → AllByRecursion P (keys_of es) → AllByRecursion P (keys_of (placed before x es))
-  all-placed P x [] p all = (p, tt)
-  all-placed P x (e ∷ es) p all = all_if P (before e x) x e es (placed before x es) p all.0 all.1 (all-placed P x es p all.1)
+  all-with_inserted : (P : K → Type 0) (x : K × X) (es : List (K × X)) → P x.0 → AllByRecursion P (keys_of es) → AllByRecursion P (keys_of (with_inserted before x es))
+  all-with_inserted P x [] p all = (p, tt)
+  all-with_inserted P x (e ∷ es) p all = all_if P (before e x) x e es (with_inserted before x es) p all.0 all.1 (all-with_inserted P x es p all.1)
 
-  rising_if : (b : Bool) (x e : K × X) (es : List (K × X)) → before e x ≡ b → is_eq (R x.0 e.0) ≡ false → IsStrictlySortedBy R (keys_of (e ∷ es)) → IsStrictlySortedBy R (keys_of (placed before x es))
-      → IsStrictlySortedBy R (keys_of (if b then e ∷ placed before x es else x ∷ e ∷ es))
+  rising_if : (b : Bool) (x e : K × X) (es : List (K × X)) → before e x ≡ b → is_eq (R x.0 e.0) ≡ false → IsStrictlySortedBy R (keys_of (e ∷ es)) → IsStrictlySortedBy R (keys_of (with_inserted before x es))
+      → IsStrictlySortedBy R (keys_of (if b then e ∷ with_inserted before x es else x ∷ e ∷ es))
   unfolding IsStrictlySortedBy
-  rising_if true x e es is other up more = (all-placed (λ z. R e.0 z ≡ Less) x es (less (R e.0 x.0) is) up.0, more)
+  rising_if true x e es is other up more = (all-with_inserted (λ z. R e.0 z ≡ Less) x es (less (R e.0 x.0) is) up.0, more)
   rising_if false x e es is other up more =
       let first : R x.0 e.0 ≡ Less = less_by o x.0 e.0 (R x.0 e.0) refl other is in
       ((first, below_all o x.0 e.0 (keys_of es) first up.0), up)
 
-  rising-placed : (x : K × X) (es : List (K × X)) → AllByRecursion (λ k. is_eq (R x.0 k) ≡ false) (keys_of es) → IsStrictlySortedBy R (keys_of es) → IsStrictlySortedBy R (keys_of (placed before x es))
+  rising-with_inserted : (x : K × X) (es : List (K × X)) → AllByRecursion (λ k. is_eq (R x.0 k) ≡ false) (keys_of es) → IsStrictlySortedBy R (keys_of es) → IsStrictlySortedBy R (keys_of (with_inserted before x es))
   unfolding IsStrictlySortedBy
-  rising-placed x [] other up = (tt, tt)
-  rising-placed x (e ∷ es) other up = rising_if (before e x) x e es refl other.0 up (rising-placed x es other.1 up.1)
+  rising-with_inserted x [] other up = (tt, tt)
+  rising-with_inserted x (e ∷ es) other up = rising_if (before e x) x e es refl other.0 up (rising-with_inserted x es other.1 up.1)
 
   -- arranged entries of other keys stand in rising order
-  pub rising-arranged : (es : List (K × X)) → IsDistinct (eq_by_cmp R) (keys_of es) → IsStrictlySortedBy R (keys_of (arranged before es))
-  unfolding arranged IsStrictlySortedBy
-  rising-arranged [] d = tt
-  rising-arranged (e ∷ es) d =
+  pub rising-sorted_by : (es : List (K × X)) → IsDistinct (eq_by_cmp R) (keys_of es) → IsStrictlySortedBy R (keys_of (sorted_by before es))
+  unfolding sorted_by IsStrictlySortedBy
+  rising-sorted_by [] d = tt
+  rising-sorted_by (e ∷ es) d =
       let apart : AllByRecursion (λ k. is_eq (R e.0 k) ≡ false) (keys_of es) = IsDistinct-head (eq_by_cmp R) e.0 (keys_of es) d in
-      let none : lookup (is_at (R e.0)) (arranged before es) ≡ None = lookup-arranged e.0 es ∙ lookup-absent (is_at (R e.0)) es apart in
-      rising-placed e (arranged before es) (absent-lookup (is_at (R e.0)) (arranged before es) none) (rising-arranged es (IsDistinct-tail (eq_by_cmp R) e.0 (keys_of es) d))
+      let none : lookup (is_at (R e.0)) (sorted_by before es) ≡ None = lookup-sorted_by e.0 es ∙ lookup-absent (is_at (R e.0)) es apart in
+      rising-with_inserted e (sorted_by before es) (absent-lookup (is_at (R e.0)) (sorted_by before es) none) (rising-sorted_by es (IsDistinct-tail (eq_by_cmp R) e.0 (keys_of es) d))

@@ -2,18 +2,18 @@
 use Rattle.std.specs.Prelude.{◌≡◌, ℕ, List, [], ◌∷◌, ◌++◌, codes}
 use Rattle.std.specs.List.{flat_map}
 use Rattle.metrics_builtin.specs.declared.Space.TheVariants.{L1}
-use Rattle.metrics_builtin.specs.Vectors.{spelled}
+use Rattle.metrics_builtin.specs.Vectors.{object_of_components}
 use Rattle.spb_defs.specs.declared.CurveKind.{CurveKind}
 use Rattle.spb_defs.specs.State.{State, empty_in_memory, empty_in_file}
 use Rattle.spb_defs.specs.Play.{play}
 
 -- a text and its LF
-abbrev pub ended : List ℕ → List ℕ
-ended text = text ++ 10 ∷ []
+abbrev pub with_lf : List ℕ → List ℕ
+with_lf text = text ++ 10 ∷ []
 
 -- from the state on, the lines are given these replies
 abbrev pub IsAnswered : State → List (List ℕ) → List (List ℕ) → Type 0
-IsAnswered s lines replies = play s (flat_map ended lines) ≡ flat_map ended replies
+IsAnswered s lines replies = play s (flat_map with_lf lines) ≡ flat_map with_lf replies
 
 -- an empty store of points with two components from 0 to 255, and one that wants so many pivots
 abbrev pub plane : State
@@ -41,4 +41,4 @@ thrice_ok = codes "ok" ∷ codes "ok" ∷ codes "ok" ∷ []
 
 -- an empty store of such points in a file, with the pivots 0,0 and 255,0
 abbrev pub plane_in_file : CurveKind → ℕ → State
-plane_in_file curve cap = empty_in_file (L1 2 255) curve (spelled (0 ∷ 0 ∷ []) ∷ spelled (255 ∷ 0 ∷ []) ∷ []) cap
+plane_in_file curve cap = empty_in_file (L1 2 255) curve (object_of_components (0 ∷ 0 ∷ []) ∷ object_of_components (255 ∷ 0 ∷ []) ∷ []) cap
