@@ -9,6 +9,7 @@ use Rattle.std.proofs.lemmas.List.Sums.{sum_by-cons}
 use Rattle.std.proofs.lemmas.Bool.Decides.{nat_tests}
 use Rattle.answer_lists.specs.Order.{goes_before, sorted_by}
 use Rattle.answer_lists.specs.OrderLaws as laws
+use Rattle.spb_edge.specs.Counts.{one_if}
 pub use Rattle.answer_lists.specs.OrderLaws.{Pair, goes_before-is}
 
 -- ---- ids
@@ -35,9 +36,6 @@ InOrder xs = laws.IsInOrder goes_before xs
 
 abbrev pub times : Pair → List Pair → ℕ
 times p xs = count_by (λ q. (p.0 == q.0) && (p.1 == q.1)) xs
-
-abbrev pub one_if : Bool → ℕ
-one_if b = if b then 1 else 0
 
 pub times-cons : (p q : Pair) (qs : List Pair) → times p (q ∷ qs) ≡ one_if ((p.0 == q.0) && (p.1 == q.1)) + times p qs
 times-cons p q qs = sum_by-cons _ q qs

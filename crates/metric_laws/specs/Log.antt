@@ -1,6 +1,7 @@
 -- What was measured, where it is told.
 use Rattle.std.specs.Prelude.{◌≡◌, ℕ, List, ◌++◌, map, Option, Some, None}
 use Rattle.std.specs.List.Sorted.{IsPermutation}
+use Rattle.metric_laws.specs.Objects.{Object}
 
 -- two objects that were measured, in this order
 abbrev pub MeasuredPair : Type 0
@@ -18,5 +19,5 @@ abbrev pub LogExtendsInAnyOrder : Option (List MeasuredPair) → Option (List Me
 LogExtendsInAnyOrder before now pairs = (measured : List MeasuredPair) × IsPermutation pairs measured × LogExtends before now measured
 
 -- one object with each of the others
-abbrev pub each_with : List ℕ → List (List ℕ) → List MeasuredPair
+abbrev pub each_with : List ℕ → List Object → List MeasuredPair
 each_with object others = map (λ other. (object, other)) others

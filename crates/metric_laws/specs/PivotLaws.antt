@@ -1,9 +1,10 @@
 -- The bounds by pivots follow from the laws of a metric.
 use Rattle.std.proofs.Common.{◌≡◌, ℕ, ◌+◌, ◌≤◌, List, arith}
+use Rattle.metric_laws.specs.Objects.{Object, Distance}
 use Rattle.metric_laws.specs.Laws.{IsDistance, IsMetric}
 use Rattle.metric_laws.specs.Pivots.{BoundByPivots}
 
-pub bound_by_distance : (admitted : List ℕ → Type 0) (dist : List ℕ → List ℕ → ℕ) → IsDistance admitted dist → BoundByPivots admitted dist
+pub bound_by_distance : (admitted : Object → Type 0) (dist : Distance) → IsDistance admitted dist → BoundByPivots admitted dist
 bound_by_distance admitted dist m = record {
   lower = λ q o p a b c.
       let there : dist q p ≤ dist q o + dist o p = m.triangle q o p a b c in
@@ -16,5 +17,5 @@ bound_by_distance admitted dist m = record {
       omega arith;
 }
 
-pub bound_by_pivots : (admitted : List ℕ → Type 0) (dist : List ℕ → List ℕ → ℕ) (top : ℕ) → IsMetric admitted dist top → BoundByPivots admitted dist
+pub bound_by_pivots : (admitted : Object → Type 0) (dist : Distance) (top : ℕ) → IsMetric admitted dist top → BoundByPivots admitted dist
 bound_by_pivots admitted dist top m = bound_by_distance admitted dist m.distance

@@ -11,6 +11,7 @@ use Rattle.std.proofs.lemmas.List.Elements.{All-tail}
 use Rattle.std.proofs.lemmas.List.Folds.{list_any_none}
 use Rattle.std.proofs.lemmas.List.FromFn.{length-range_with_len}
 use Rattle.std.proofs.lemmas.List.Sums.{sum_by-cons, count_by-le-length}
+use Rattle.spb_edge.specs.Counts.{one_if}
 use Rattle.metric_laws.specs.Laws.{IsMetric}
 use Rattle.metrics_builtin.specs.Vectors.{components, object_of_components}
 use Rattle.metrics_builtin.specs.VectorLaws.{components-object_of_components, length-object_of_components, object_of_components-components}
@@ -18,34 +19,30 @@ use Rattle.metrics_builtin.specs.Sets.{IsSubset, IsRisingWithin, is_element, exa
 
 -- ---- counts of numbers that pass a test
 
--- 1 where the test passes
-abbrev one : Bool → ℕ
-one b = cond b 1 0
-
-count-cons : (p : ℕ → Bool) (z : ℕ) (zs : List ℕ) → count_by p (z ∷ zs) ≡ one (p z) + count_by p zs
+count-cons : (p : ℕ → Bool) (z : ℕ) (zs : List ℕ) → count_by p (z ∷ zs) ≡ one_if (p z) + count_by p zs
 count-cons p z zs = sum_by-cons (λ x. cond (p x) 1 0) z zs
 
 -- as many as two other tests together
-count-sum : (p q r : ℕ → Bool) → ((z : ℕ) → one (p z) ≡ one (q z) + one (r z)) → (zs : List ℕ) → count_by p zs ≡ count_by q zs + count_by r zs
+count-sum : (p q r : ℕ → Bool) → ((z : ℕ) → one_if (p z) ≡ one_if (q z) + one_if (r z)) → (zs : List ℕ) → count_by p zs ≡ count_by q zs + count_by r zs
 count-sum p q r h [] = refl
 count-sum p q r h (z ∷ zs) = omega (arith, count-cons p z zs, count-cons q z zs, count-cons r z zs, h z, count-sum p q r h zs)
 
 -- no more than two other tests together
-count-le : (p q r : ℕ → Bool) → ((z : ℕ) → one (p z) ≤ one (q z) + one (r z)) → (zs : List ℕ) → count_by p zs ≤ count_by q zs + count_by r zs
+count-le : (p q r : ℕ → Bool) → ((z : ℕ) → one_if (p z) ≤ one_if (q z) + one_if (r z)) → (zs : List ℕ) → count_by p zs ≤ count_by q zs + count_by r zs
 count-le p q r h [] = omega arith
 count-le p q r h (z ∷ zs) = omega (arith, count-cons p z zs, count-cons q z zs, count-cons r z zs, h z, count-le p q r h zs)
 
 -- as many where the tests are alike
 count-same : (p q : ℕ → Bool) → ((z : ℕ) → p z ≡ q z) → (zs : List ℕ) → count_by p zs ≡ count_by q zs
 count-same p q h [] = refl
-count-same p q h (z ∷ zs) = omega (arith, count-cons p z zs, count-cons q z zs, ap one (h z), count-same p q h zs)
+count-same p q h (z ∷ zs) = omega (arith, count-cons p z zs, count-cons q z zs, ap one_if (h z), count-same p q h zs)
 
 -- a number stands in a range once or nowhere
 
-test_same : (x : ℕ) → one (x == x) ≡ 1
+test_same : (x : ℕ) → one_if (x == x) ≡ 1
 test_same x = grind (arith, nat_tests)
 
-test_other : (x z : ℕ) → (x ≡ z → ⊥) → one (x == z) ≡ 0
+test_other : (x z : ℕ) → (x ≡ z → ⊥) → one_if (x == z) ≡ 0
 test_other x z h = grind (arith, nat_tests)
 
 count-past : (x a n : ℕ) → x < a → count_by (λ z. x == z) (range_with_len a n) ≡ 0
@@ -57,7 +54,7 @@ count-here : (x a n : ℕ) → a ≤ x → x < a + n → count_by (λ z. x == z)
 count-here x a zero low high = absurd (omega arith)
 count-here x a (suc n) low high = elim (cases_eq x a) [
   | inl e ↦
-      let first : one (x == a) ≡ 1 = grind (arith, nat_tests) in
+      let first : one_if (x == a) ≡ 1 = grind (arith, nat_tests) in
       omega (arith, count-cons (λ z. x == z) a (range_with_len (a + 1) n), first, count-past x (a + 1) n (omega arith))
   | inr other ↦
       omega (arith, count-cons (λ z. x == z) a (range_with_len (a + 1) n), test_other x a other, count-here x (a + 1) n (omega arith) (omega arith))
@@ -67,17 +64,17 @@ count-once : (x a n : ℕ) → count_by (λ z. x == z) (range_with_len a n) ≤ 
 count-once x a zero = omega arith
 count-once x a (suc n) = elim (cases_eq x a) [
   | inl e ↦
-      let first : one (x == a) ≤ 1 = grind (arith, nat_tests) in
+      let first : one_if (x == a) ≤ 1 = grind (arith, nat_tests) in
       omega (arith, count-cons (λ z. x == z) a (range_with_len (a + 1) n), first, count-past x (a + 1) n (omega arith))
   | inr other ↦
       omega (arith, count-cons (λ z. x == z) a (range_with_len (a + 1) n), test_other x a other, count-once x (a + 1) n)
 ]
 
 -- where none pass, each fails
-none_passes : (p : ℕ → Bool) (a n z : ℕ) → count_by p (range_with_len a n) ≡ 0 → a ≤ z → z < a + n → one (p z) ≡ 0
+none_passes : (p : ℕ → Bool) (a n z : ℕ) → count_by p (range_with_len a n) ≡ 0 → a ≤ z → z < a + n → one_if (p z) ≡ 0
 none_passes p a zero z e low high = absurd (omega arith)
 none_passes p a (suc n) z e low high = elim (cases_eq z a) [
-  | inl same ↦ ap (λ k. one (p k)) same ∙ omega (arith, count-cons p a (range_with_len (a + 1) n))
+  | inl same ↦ ap (λ k. one_if (p k)) same ∙ omega (arith, count-cons p a (range_with_len (a + 1) n))
   | inr other ↦ none_passes p (a + 1) n z (omega (arith, count-cons p a (range_with_len (a + 1) n))) (omega arith) (omega arith)
 ]
 
@@ -139,7 +136,7 @@ exactly_comm true false = refl
 exactly_comm false true = refl
 exactly_comm false false = refl
 
-exactly_triangle : (a b c : Bool) → one (exactly_one a c) ≤ one (exactly_one a b) + one (exactly_one b c)
+exactly_triangle : (a b c : Bool) → one_if (exactly_one a c) ≤ one_if (exactly_one a b) + one_if (exactly_one b c)
 exactly_triangle true true c = omega arith
 exactly_triangle true false true = omega arith
 exactly_triangle true false false = omega arith
@@ -147,7 +144,7 @@ exactly_triangle false true true = omega arith
 exactly_triangle false true false = omega arith
 exactly_triangle false false c = omega arith
 
-exactly_le : (a b : Bool) → one (exactly_one a b) ≤ one a + one b
+exactly_le : (a b : Bool) → one_if (exactly_one a b) ≤ one_if a + one_if b
 exactly_le true true = omega arith
 exactly_le true false = omega arith
 exactly_le false b = omega arith
@@ -156,7 +153,7 @@ exactly_self : (a : Bool) → exactly_one a a ≡ false
 exactly_self true = refl
 exactly_self false = refl
 
-exactly_zero : (a b : Bool) → one (exactly_one a b) ≡ 0 → a ≡ b
+exactly_zero : (a b : Bool) → one_if (exactly_one a b) ≡ 0 → a ≡ b
 exactly_zero true true e = refl
 exactly_zero true false e = absurd (omega arith)
 exactly_zero false true e = absurd (omega arith)
@@ -186,7 +183,7 @@ set_dist-self universe xs =
     count-same (λ e. exactly_one (is_element xs e) (is_element xs e)) (λ e. false) (λ e. exactly_self (is_element xs e)) (range_with_len 0 universe)
     ∙ none_of (range_with_len 0 universe)
 
-one_or : (a b : Bool) → one (a || b) ≤ one a + one b
+one_or : (a b : Bool) → one_if (a || b) ≤ one_if a + one_if b
 one_or true b = omega arith
 one_or false b = omega arith
 
@@ -259,7 +256,7 @@ set_dist-zero universe xs ys r s v w z =
 -- ---- a step of a merge
 
 one_more : (x : ℕ) (xs ys : List ℕ) → is_element xs x ≡ false → is_element ys x ≡ false → (z : ℕ) →
-    one (exactly_one (is_element (x ∷ xs) z) (is_element ys z)) ≡ one (x == z) + one (exactly_one (is_element xs z) (is_element ys z))
+    one_if (exactly_one (is_element (x ∷ xs) z) (is_element ys z)) ≡ one_if (x == z) + one_if (exactly_one (is_element xs z) (is_element ys z))
 one_more x xs ys none none_y z = elim (cases_eq x z) [
   | inl e ↦
       let first : (x == z) ≡ true = grind (arith, nat_tests) in
@@ -267,7 +264,7 @@ one_more x xs ys none none_y z = elim (cases_eq x z) [
       let missing_y : is_element ys z ≡ false = ap (is_element ys) (sym e) ∙ none_y in
       rw (first, missing, missing_y) refl
   | inr other ↦
-      omega (arith, ap (λ b. one (exactly_one b (is_element ys z))) (is_element-other x z xs other), test_other x z other)
+      omega (arith, ap (λ b. one_if (exactly_one b (is_element ys z))) (is_element-other x z xs other), test_other x z other)
 ]
 
 -- an element that the rest of one list and the other list lack counts

@@ -12,12 +12,10 @@ use Rattle.answer_lists.specs.Order.{goes_before, with_inserted, sorted_by}
 use Rattle.answer_lists.specs.OrderLaws as laws
 use Rattle.answer_lists.specs.OrderLaws.{Pair}
 use Rattle.nn_query.specs.Queue.{count_before}
+use Rattle.spb_edge.specs.Counts.{one_if}
 
 abbrev pub InOrder : List Pair → Type 0
 InOrder xs = laws.IsInOrder goes_before xs
-
-abbrev one_if : Bool → ℕ
-one_if b = if b then 1 else 0
 
 pub in_order-sorted_by : (xs : List Pair) → InOrder (sorted_by goes_before xs)
 in_order-sorted_by xs = laws.in_order-arranged goes_before (laws.weak goes_before laws.pair_order) xs

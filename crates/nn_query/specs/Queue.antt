@@ -4,6 +4,7 @@ use Rattle.std.specs.List.{slice_index_or, flat_map}
 use Rattle.std.specs.Ordering.{is_lt, nat_cmp, ordering_then}
 use Rattle.std.specs.declared.cmp.Ordering.{Ordering}
 use Rattle.std.specs.declared.cmp.Ordering.TheVariants.{Less, Greater}
+use Rattle.spb_defs.specs.Scans.{Rank}
 use Rattle.answer_lists.specs.Order.{goes_before, sorted_by}
 use Rattle.nn_query.specs.declared.queue.Kind.{Kind}
 use Rattle.nn_query.specs.declared.queue.Kind.TheVariants.{Node, Object}
@@ -30,15 +31,15 @@ least_id (Node level) = 0
 least_id (Object id) = id
 
 -- the least rank that what is under it may have: its bound, and the id of an object
-abbrev pub least_rank : Waiting → ℕ × ℕ
+abbrev pub least_rank : Waiting → Rank
 least_rank w = (w.bound, least_id w.kind)
 
 -- how many ranks go before this one
-abbrev pub count_before : ℕ × ℕ → List (ℕ × ℕ) → ℕ
+abbrev pub count_before : Rank → List Rank → ℕ
 count_before rank ranks = count_by (λ other. goes_before other rank) ranks
 
 -- so many of the ranks go before all that is under it
-abbrev pub IsPruned : ℕ → List (ℕ × ℕ) → Waiting → Type 0
+abbrev pub IsPruned : ℕ → List Rank → Waiting → Type 0
 IsPruned k ranks w = k ≤ count_before (least_rank w) ranks
 
 -- ---- the objects under what waits
@@ -54,7 +55,7 @@ abbrev pub as_waiting : Candidate → Waiting
 as_waiting c = record { bound = c.bound; kind = Object c.id; place = c.place }
 
 -- the bound and the id
-abbrev pub bound_rank : Candidate → ℕ × ℕ
+abbrev pub bound_rank : Candidate → Rank
 bound_rank c = (c.bound, c.id)
 
 -- by the bound, the id and the place

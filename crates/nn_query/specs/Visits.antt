@@ -1,8 +1,9 @@
 -- What looking at nodes and objects in their order finds.
 use Rattle.std.specs.Prelude.{◌≡◌, ℕ, ◌<◌, ◌≤◌, false, List, ◌++◌, nat_lt, length, take, drop, map, count_by, sum_by, All, IsPermutation}
 use Rattle.std.specs.List.{AllByRecursion, flat_map}
+use Rattle.metric_laws.specs.Objects.{Distance}
 use Rattle.answer_lists.specs.Order.{goes_before, sorted_by}
-use Rattle.spb_defs.specs.Scans.{Entry, ranks_of}
+use Rattle.spb_defs.specs.Scans.{Rank, Entry, ranks_of}
 use Rattle.nn_query.specs.declared.queue.Kind.{Kind}
 use Rattle.nn_query.specs.declared.queue.Kind.TheVariants.{Node, Object}
 use Rattle.nn_query.specs.declared.queue.Waiting.{Waiting}
@@ -39,13 +40,13 @@ pub record IsLeast (nodes : Nodes) (is_sound : ℕ → ℕ → Type 0) (w : Wait
   pub sound : IsSoundKind is_sound w.place w.kind
 
 -- no bound is too great: neither that of an object for its distance, nor that of a node for what is under it
-pub record AreBounds (dist : List ℕ → List ℕ → ℕ) (object_at : ℕ → List ℕ) (query : List ℕ) (nodes : Nodes) (is_sound : ℕ → ℕ → Type 0) (items : List Waiting) : Type 0 where
+pub record AreBounds (dist : Distance) (object_at : ℕ → List ℕ) (query : List ℕ) (nodes : Nodes) (is_sound : ℕ → ℕ → Type 0) (items : List Waiting) : Type 0 where
   pub lower : AllByRecursion (λ (c : Candidate). goes_before (dist query (object_at c.place), c.id) (bound_rank c) ≡ false) (flat_map (candidates_under nodes) items)
   pub least : AllByRecursion (IsLeast nodes is_sound) items
 
 -- The node of this level at this place was opened: rows stand for it, and were put in, but for some that k of
 -- the ranks shut out.
-pub record Expands (nodes : Nodes) (is_sound : ℕ → ℕ → Type 0) (can_visit : Waiting → Type 0) (k : ℕ) (ranks : List (ℕ × ℕ)) (level place : ℕ) (old new : List Waiting) : Type 0 where
+pub record Expands (nodes : Nodes) (is_sound : ℕ → ℕ → Type 0) (can_visit : Waiting → Type 0) (k : ℕ) (ranks : List Rank) (level place : ℕ) (old new : List Waiting) : Type 0 where
   pub rows : List Waiting
   pub objects : IsPermutation (nodes.objects level place) (flat_map (candidates_under nodes) rows)
   pub bounds : IsPermutation (nodes.bounds level place) (flat_map (bounds_under nodes) rows)
@@ -62,13 +63,13 @@ pub record Expands (nodes : Nodes) (is_sound : ℕ → ℕ → Type 0) (can_visi
 
 -- how many nodes from the items on are in reach of the k-th of all objects under them: before the bound fewer than
 -- k ranks go
-abbrev pub nodes_in_reach : (List ℕ → List ℕ → ℕ) → (ℕ → List ℕ) → List ℕ → Nodes → ℕ → List Waiting → ℕ
+abbrev pub nodes_in_reach : Distance → (ℕ → List ℕ) → List ℕ → Nodes → ℕ → List Waiting → ℕ
 nodes_in_reach dist object_at query nodes k items =
     count_by (λ b. nat_lt (count_before (b, 0) (ranks_of dist (entries_at object_at (queued_candidates nodes items)) query)) k) (flat_map (bounds_under nodes) items)
 
 -- The first n candidates are those before whose bound and id fewer than k ranks of all candidates go, and the least
 -- ranks are the first k of all.
-pub record Visited (dist : List ℕ → List ℕ → ℕ) (object_at : ℕ → List ℕ) (query : List ℕ) (cs : List Candidate) (k n : ℕ) (least : List (ℕ × ℕ)) : Type 0 where
+pub record Visited (dist : Distance) (object_at : ℕ → List ℕ) (query : List ℕ) (cs : List Candidate) (k n : ℕ) (least : List Rank) : Type 0 where
   pub within : n ≤ length cs
   pub looked_at : All (λ (c : Candidate). count_before (bound_rank c) (ranks_of dist (entries_at object_at cs) query) < k) (take n cs)
   pub left_out : All (λ (c : Candidate). k ≤ count_before (bound_rank c) (ranks_of dist (entries_at object_at cs) query)) (drop n cs)

@@ -1,4 +1,5 @@
 //! What a search for the nearest goes through.
+ghost use Rattle.metric_laws.specs.Calls.{RulerContinues};
 ghost use Rattle.std.specs.Prelude.{◌≡◌, ℕ, ◌+◌, ◌-◌, ◌^◌, ◌<◌, ◌≤◌, [], ◌∷◌, List, IfOk, OnOk};
 ghost use Rattle.metric_laws.specs.Log.{LogExtends};
 ghost use Rattle.nn_query.specs.Items.{items_of};
@@ -48,8 +49,7 @@ pub(crate) trait Hierarchy {
         requires room { R.count ruler.old < 2 ^ 64 - 1 }
         ensures kept { content self.new ≡ content self.old }
         ensures distance { IfOk result (λ distance. distance ≡ R.dist (R.kind ruler.old) q.now (object_at (content self.old) place)) }
-        ensures kind { R.kind ruler.new ≡ R.kind ruler.old }
-        ensures rises { R.count ruler.old ≤ R.count ruler.new }
+        ensures ruler { RulerContinues R.kind R.count ruler.old ruler.new }
         ensures count { OnOk result (R.count ruler.new ≡ R.count ruler.old + 1) }
         ensures log { OnOk result (LogExtends (R.log ruler.old) (R.log ruler.new) ((q.now, object_at (content self.old) place) ∷ [])) };
 

@@ -1,3 +1,4 @@
+ghost use Rattle.metric_laws.specs.Calls.{RulerContinues};
 ghost use Rattle.std.specs.Prelude.{◌≡◌, [], ◌+◌, ◌^◌, ◌<◌, ◌≤◌, take, sum_by, IfOk, OnOk};
 ghost use Rattle.std.specs.List.{AllByRecursion};
 ghost use Rattle.metric_laws.specs.Log.{LogExtends, each_with};
@@ -43,8 +44,7 @@ pub fn near_rows<R: Ruler>(
     ensures count { IfOk result (λ answer. R.count ruler.new ≡ R.count ruler.old + answer.evals) }
     ensures log { OnOk result (LogExtends (R.log ruler.old) (R.log ruler.new)
         (each_with q.now (near_visits (R.dist (R.kind ruler.old)) pivots.now (entries_of rows.now) q.now k))) }
-    ensures rises { R.count ruler.old ≤ R.count ruler.new }
-    ensures kind { R.kind ruler.new ≡ R.kind ruler.old }
+    ensures ruler { RulerContinues R.kind R.count ruler.old ruler.new }
 {
     let asked = map_object(ruler, pivots, q);
     let queue = Queue::of(alloc, rows, &asked)?;
@@ -93,8 +93,7 @@ fn visit_in_order<H: Hierarchy, R: Ruler>(
         (each_with q.now (objects_at (H.object_at (H.content held.old)) (take seen.measured (queued_candidates (H.nodes (H.content held.old)) (items_of queue)))))) }
     ensures few { IfOk result (λ seen. seen.measured + seen.opened ≤ sum_by (weight_of (H.nodes (H.content held.old))) (items_of queue)) }
     ensures count { IfOk result (λ seen. R.count ruler.new ≡ R.count ruler.old + seen.measured) }
-    ensures rises { R.count ruler.old ≤ R.count ruler.new }
-    ensures kind { R.kind ruler.new ≡ R.kind ruler.old }
+    ensures ruler { RulerContinues R.kind R.count ruler.old ruler.new }
     ensures kept { H.content held.new ≡ H.content held.old }
 {
     let mut seen = VisitCount {

@@ -2,7 +2,7 @@
 use Rattle.std.proofs.Common.{◌≡◌, ℕ, ◌+◌, ◌<◌, ◌≤◌, List, [], ◌∷◌, ◌++◌, length, get_or, max, take, ◌==◌, refl, sym, ap, ◌∙◌, arith, Bool, true, false, suc}
 use Rattle.std.proofs.lemmas.Bool.Decides.{nat_tests}
 use Rattle.std.proofs.lemmas.List.{take_more, length-take-le}
-use Rattle.spb_defs.specs.Pivots.{greatest}
+use Rattle.metrics_builtin.specs.Vectors.{greatest}
 use Rattle.spb_defs.specs.Choice.{first_place}
 use Rattle.spb_defs.specs.ChoiceLaws.{greatest-cons, first_place-at, first_place-behind, rest-greatest}
 

@@ -12,7 +12,7 @@ use Rattle.std.proofs.lemmas.List.FromFn.{fill_by_all}
 use Rattle.std.specs.Cmp.{nat_eq_equiv}
 use Rattle.std.proofs.lemmas.Map.Keys.{IsDistinct-push}
 use Rattle.metric_laws.specs.Log.{each_with}
-use Rattle.spb_defs.specs.Pivots.{greatest}
+use Rattle.metrics_builtin.specs.Vectors.{greatest}
 use Rattle.spb_defs.specs.Choice.{sample_at, worth, first_place, next_place, chosen_places, choice_evals}
 use Rattle.spb_defs.specs.Farthest.{IsFarthestFirst}
 use Rattle.pivot_choice.specs.Worths.{is_unchosen, updated_worth, unchosen_among_first, unchosen_samples, choice_visits}

@@ -1,7 +1,8 @@
+ghost use Rattle.metric_laws.specs.Calls.{RulerContinues};
 ghost use Rattle.std.specs.Prelude.{◌≡◌, ℕ, ◌+◌, ◌^◌, ◌<◌, ◌≤◌, nat_eq, List, length, replicate, slice_index, count_by, All, EachIndex, IfOk, OnOk};
 ghost use Rattle.std.specs.List.{IsDistinct};
 ghost use Rattle.metric_laws.specs.Log.{LogExtends, each_with};
-ghost use Rattle.spb_defs.specs.Pivots.{greatest};
+ghost use Rattle.metrics_builtin.specs.Vectors.{greatest};
 ghost use Rattle.spb_defs.specs.Choice.{sample_at, first_place, chosen_places, choice_evals};
 ghost use Rattle.spb_defs.specs.Farthest.{IsFarthestFirst};
 ghost use Rattle.pivot_choice.specs.Worths.{is_unchosen, updated_worth, unchosen_among_first, choice_visits};
@@ -36,9 +37,8 @@ pub fn choose<R: Ruler>(
     ensures distinct { IfOk result (λ places. IsDistinct nat_eq places) }
     ensures farthest { IfOk result (λ places. IsFarthestFirst (R.dist (R.kind ruler.old)) sample.now places) }
     ensures count { OnOk result (R.count ruler.new ≡ R.count ruler.old + choice_evals (length sample.now) n) }
-    ensures rises { R.count ruler.old ≤ R.count ruler.new }
+    ensures ruler { RulerContinues R.kind R.count ruler.old ruler.new }
     ensures log { OnOk result (LogExtends (R.log ruler.old) (R.log ruler.new) (choice_visits (R.dist (R.kind ruler.old)) sample.now n)) }
-    ensures kind { R.kind ruler.new ≡ R.kind ruler.old }
 {
     if n == 0 {
         return Ids::of(alloc, &[]);
@@ -67,9 +67,8 @@ fn choose_by_worth<R: Ruler>(
     ensures places { IfOk result (λ places. places ≡ chosen_places (R.dist (R.kind ruler.old)) sample.now n) }
     ensures distinct { IfOk result (λ places. IsDistinct nat_eq places) }
     ensures count { OnOk result (R.count ruler.new ≡ R.count ruler.old + choice_evals (length sample.now) n) }
-    ensures rises { R.count ruler.old ≤ R.count ruler.new }
+    ensures ruler { RulerContinues R.kind R.count ruler.old ruler.new }
     ensures log { OnOk result (LogExtends (R.log ruler.old) (R.log ruler.new) (choice_visits (R.dist (R.kind ruler.old)) sample.now n)) }
-    ensures kind { R.kind ruler.new ≡ R.kind ruler.old }
 {
     let mut chosen = best_place(worths);
     let mut places = Ids::of(alloc, &[chosen as u32])?;

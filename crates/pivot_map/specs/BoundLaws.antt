@@ -5,6 +5,7 @@ use Rattle.std.specs.Int.{abs_diff}
 use Rattle.std.proofs.lemmas.Bool.Decides.{nat_tests}
 use Rattle.std.proofs.lemmas.List.{length-map}
 use Rattle.std.proofs.lemmas.List.Elements.{All-head, All-tail}
+use Rattle.metric_laws.specs.Objects.{Object, Distance}
 use Rattle.metric_laws.specs.Laws.{IsDistance}
 use Rattle.metric_laws.specs.Pivots.{BoundByPivots}
 use Rattle.metric_laws.specs.PivotLaws.{bound_by_distance}
@@ -34,7 +35,7 @@ greater-within x y most h k = grind (arith, nat_tests)
 
 -- ---- all coordinates
 
-within_meets : (admitted : List ℕ → Type 0) (dist : List ℕ → List ℕ → ℕ) → BoundByPivots admitted dist → (pivots : List (List ℕ)) → All admitted pivots → (a b : List ℕ) (radius : ℕ) → admitted a → admitted b → dist a b ≤ radius → meets (vector_of dist pivots a) radius (cells_of dist pivots b) ≡ true
+within_meets : (admitted : Object → Type 0) (dist : Distance) → BoundByPivots admitted dist → (pivots : List Object) → All admitted pivots → (a b : Object) (radius : ℕ) → admitted a → admitted b → dist a b ≤ radius → meets (vector_of dist pivots a) radius (cells_of dist pivots b) ≡ true
 within_meets admitted dist m [] all a b radius f g h = refl
 within_meets admitted dist m (p ∷ ps) all a b radius f g h =
     let apart : abs_diff (dist a p) (dist b p) ≤ dist a b = m.lower a b p f g (All-head admitted p ps all) in
@@ -47,7 +48,7 @@ one-of : (first rest : Bool) (P : Type 0) → (first || rest) ≡ true → (firs
 one-of true rest P h f g = f refl
 one-of false rest P h f g = g h
 
-sure_within : (admitted : List ℕ → Type 0) (dist : List ℕ → List ℕ → ℕ) → BoundByPivots admitted dist → (pivots : List (List ℕ)) → All admitted pivots → (a b : List ℕ) (radius : ℕ) → admitted a → admitted b → is_sure (vector_of dist pivots a) radius (cells_of dist pivots b) ≡ true → dist a b ≤ radius
+sure_within : (admitted : Object → Type 0) (dist : Distance) → BoundByPivots admitted dist → (pivots : List Object) → All admitted pivots → (a b : Object) (radius : ℕ) → admitted a → admitted b → is_sure (vector_of dist pivots a) radius (cells_of dist pivots b) ≡ true → dist a b ≤ radius
 sure_within admitted dist m [] all a b radius f g h = absurd (let none : false ≡ true = h in cc)
 sure_within admitted dist m (p ∷ ps) all a b radius f g h =
     let round : dist a b ≤ dist a p + dist b p = m.upper a b p f g (All-head admitted p ps all) in
@@ -55,14 +56,14 @@ sure_within admitted dist m (p ∷ ps) all a b radius f g h =
     (λ first. omega (arith, round, sum-within (dist a p) (dist b p) radius first))
     (λ rest. sure_within admitted dist m ps (All-tail admitted p ps all) a b radius f g rest)
 
-bound_below : (admitted : List ℕ → Type 0) (dist : List ℕ → List ℕ → ℕ) → BoundByPivots admitted dist → (pivots : List (List ℕ)) → All admitted pivots → (a b : List ℕ) → admitted a → admitted b → lower_bound (vector_of dist pivots a) (cells_of dist pivots b) ≤ dist a b
+bound_below : (admitted : Object → Type 0) (dist : Distance) → BoundByPivots admitted dist → (pivots : List Object) → All admitted pivots → (a b : Object) → admitted a → admitted b → lower_bound (vector_of dist pivots a) (cells_of dist pivots b) ≤ dist a b
 bound_below admitted dist m [] all a b f g = omega arith
 bound_below admitted dist m (p ∷ ps) all a b f g =
     greater-within (gap (dist a p) (dist b p)) (lower_bound (vector_of dist ps a) (cells_of dist ps b)) (dist a b)
     (m.lower a b p f g (All-head admitted p ps all))
     (bound_below admitted dist m ps (All-tail admitted p ps all) a b f g)
 
-pub bounds_hold : (admitted : List ℕ → Type 0) (dist : List ℕ → List ℕ → ℕ) → IsDistance admitted dist → (pivots : List (List ℕ)) → All admitted pivots → BoundsHold admitted dist pivots
+pub bounds_hold : (admitted : Object → Type 0) (dist : Distance) → IsDistance admitted dist → (pivots : List Object) → All admitted pivots → BoundsHold admitted dist pivots
 bounds_hold admitted dist laws pivots all =
     let m = bound_by_distance admitted dist laws in
     record {
@@ -76,11 +77,11 @@ bounds_hold admitted dist laws pivots all =
 -- ---- vectors and cells
 
 -- a vector has a coordinate for each pivot
-pub length-vector_of : (dist : List ℕ → List ℕ → ℕ) (pivots : List (List ℕ)) (object : List ℕ) → length (vector_of dist pivots object) ≡ length pivots
+pub length-vector_of : (dist : Distance) (pivots : List Object) (object : List ℕ) → length (vector_of dist pivots object) ≡ length pivots
 length-vector_of dist pivots object = length-map pivots (λ pivot. dist object pivot)
 
 -- and so have the cells of an object
-pub length-cells_of : (dist : List ℕ → List ℕ → ℕ) (pivots : List (List ℕ)) (object : List ℕ) → length (cells_of dist pivots object) ≡ length pivots
+pub length-cells_of : (dist : Distance) (pivots : List Object) (object : List ℕ) → length (cells_of dist pivots object) ≡ length pivots
 length-cells_of dist pivots object = length-map pivots (λ pivot. dist object pivot)
 
 -- ---- bounds and tests
@@ -101,7 +102,7 @@ near-symmetric : (x y radius : ℕ) → near x radius y ≡ near y radius x
 near-symmetric x y radius = grind (arith, nat_tests)
 
 -- two objects meet both ways
-pub pair_meets-symmetric : (a b : List ℕ) (radius : ℕ) → pair_meets a radius b ≡ pair_meets b radius a
+pub pair_meets-symmetric : (a b : Object) (radius : ℕ) → pair_meets a radius b ≡ pair_meets b radius a
 pair_meets-symmetric [] [] radius = refl
 pair_meets-symmetric [] (y ∷ ys) radius = refl
 pair_meets-symmetric (x ∷ xs) [] radius = refl
@@ -109,7 +110,7 @@ pair_meets-symmetric (x ∷ xs) (y ∷ ys) radius =
     ap (λ met. met && pair_meets xs radius ys) (near-symmetric x y radius) ∙ ap (λ rest. near y radius x && rest) (pair_meets-symmetric xs ys radius)
 
 -- and that is sure both ways
-pub pair_is_sure-symmetric : (a b : List ℕ) (radius : ℕ) → pair_is_sure a radius b ≡ pair_is_sure b radius a
+pub pair_is_sure-symmetric : (a b : Object) (radius : ℕ) → pair_is_sure a radius b ≡ pair_is_sure b radius a
 pair_is_sure-symmetric [] [] radius = refl
 pair_is_sure-symmetric [] (y ∷ ys) radius = refl
 pair_is_sure-symmetric (x ∷ xs) [] radius = refl

@@ -1,5 +1,6 @@
 -- Laws of what the pivots tell.
 use Rattle.std.proofs.Common.{◌≡◌, ℕ, ◌<◌, ◌≤◌, Bool, true, false, List, refl, sym, ap, ◌∙◌, arith}
+use Rattle.metric_laws.specs.Objects.{Object, Distance}
 use Rattle.spb_defs.specs.Pivots.{vector_of, cells_of, meets, is_sure, pair_meets, pair_is_sure}
 use Rattle.pivot_map.specs.declared.verdict.PairTest.{PairTest}
 use Rattle.pivot_map.specs.declared.verdict.PairTest.TheVariants.{Apart, Open, Sure}
@@ -17,11 +18,11 @@ pub query-tells : (asked cells : List ℕ) (radius : ℕ) → IsTestOf (query_ve
 query-tells asked cells radius = tells-of (meets asked radius cells) (is_sure asked radius cells)
 
 -- and so does that on two objects
-pub pair-tells : (a b : List ℕ) (radius : ℕ) → IsTestOf (pair_verdict a radius b) (pair_meets a radius b) (pair_is_sure a radius b)
+pub pair-tells : (a b : Object) (radius : ℕ) → IsTestOf (pair_verdict a radius b) (pair_meets a radius b) (pair_is_sure a radius b)
 pair-tells a b radius = tells-of (pair_meets a radius b) (pair_is_sure a radius b)
 
 -- the verdict on two objects is the same both ways
-pub pair_verdict-symmetric : (a b : List ℕ) (radius : ℕ) → pair_verdict a radius b ≡ pair_verdict b radius a
+pub pair_verdict-symmetric : (a b : Object) (radius : ℕ) → pair_verdict a radius b ≡ pair_verdict b radius a
 pair_verdict-symmetric a b radius =
     ap (λ met. verdict met (pair_is_sure a radius b)) (pair_meets-symmetric a b radius) ∙ ap (λ sure. verdict (pair_meets b radius a) sure) (pair_is_sure-symmetric a b radius)
 
@@ -36,7 +37,7 @@ settles-by distance radius Open met sure t f g = tt
 settles-by distance radius Sure met sure (m, s) f g = g s
 
 -- the verdict on a query and an object tells their distance
-pub query_settles : (admitted : List ℕ → Type 0) (dist : List ℕ → List ℕ → ℕ) (pivots : List (List ℕ)) → BoundsHold admitted dist pivots → (q o : List ℕ) (radius : ℕ) → admitted q → admitted o
+pub query_settles : (admitted : Object → Type 0) (dist : Distance) (pivots : List Object) → BoundsHold admitted dist pivots → (q o : Object) (radius : ℕ) → admitted q → admitted o
     → IsSoundTest (query_verdict (vector_of dist pivots q) radius (cells_of dist pivots o)) (dist q o) radius
 query_settles admitted dist pivots bounds q o radius f g =
     let asked = vector_of dist pivots q in
@@ -46,7 +47,7 @@ query_settles admitted dist pivots bounds q o radius f g =
     (bounds.sure_within q o radius f g)
 
 -- and the verdict on two objects tells theirs
-pub pair_settles : (admitted : List ℕ → Type 0) (dist : List ℕ → List ℕ → ℕ) (pivots : List (List ℕ)) → BoundsHold admitted dist pivots → (a b : List ℕ) (radius : ℕ) → admitted a → admitted b
+pub pair_settles : (admitted : Object → Type 0) (dist : Distance) (pivots : List Object) → BoundsHold admitted dist pivots → (a b : Object) (radius : ℕ) → admitted a → admitted b
     → IsSoundTest (pair_verdict (cells_of dist pivots a) radius (cells_of dist pivots b)) (dist a b) radius
 pair_settles admitted dist pivots bounds a b radius f g =
     let x = cells_of dist pivots a in

@@ -3,14 +3,14 @@ use Rattle.std.proofs.Common.{◌≡◌, ℕ, Bool, List, [], ◌∷◌, ◌++�
 use Rattle.std.specs.Prelude.{nat_le, filter, map, All}
 use Rattle.std.specs.List.Sorted.{IsPermutation}
 use Rattle.std.proofs.lemmas.List.Sorted.{IsPermutation-map}
+use Rattle.metric_laws.specs.Objects.{Object, Distance}
 use Rattle.metric_laws.specs.Log.{MeasuredPair, LogExtendsInAnyOrder}
 use Rattle.metric_laws.specs.LogLaws.{LogExtends-same}
 use Rattle.answer_lists.specs.Order.{goes_before, sorted_by}
 use Rattle.answer_lists.specs.Permutations.{permutation-filter}
 use Rattle.scan_laws.specs.RowOrder.{join_answer-moved}
 use Rattle.spb_defs.specs.Pivots.{cells_of, pair_meets, pair_is_sure}
-use Rattle.spb_defs.specs.Scans as scans
-use Rattle.spb_defs.specs.Scans.{scan_join, join_evals, join_sure, join_answer, join_visits, pair_needs_distance, pair_is_included}
+use Rattle.spb_defs.specs.Scans.{Entry, scan_join, join_evals, join_sure, join_answer, join_visits, pair_needs_distance, pair_is_included}
 use Rattle.pivot_map.specs.Bounds.{BoundsHold}
 use Rattle.pivot_map.specs.Verdicts.{pair_verdict, IsTestOf}
 use Rattle.pivot_map.specs.VerdictLaws.{pair-tells}
@@ -24,12 +24,9 @@ use Rattle.query_pass.specs.Findings.{PassesOver, MeasuresOpen}
 use Rattle.query_pass.specs.PassLaws.{PassesOver-then, PassesOver-apart, MeasuresOpen-then, MeasuresOpen-apart, kept_same, count_same}
 use Rattle.query_pass.specs.Pairs.{IsRow, ArePairs, pair_entries, pair_ids, pair_objects, verdict_of_pair}
 
-abbrev pub Entry : Type 0
-Entry = scans.Entry
-
 -- ---- a pair
 
-module _ (admitted : List ℕ → Type 0) (dist : List ℕ → List ℕ → ℕ) (pivots : List (List ℕ)) (bounds : BoundsHold admitted dist pivots) (radius : ℕ) where
+module _ (admitted : Object → Type 0) (dist : Distance) (pivots : List Object) (bounds : BoundsHold admitted dist pivots) (radius : ℕ) where
   -- a test of the cells of two objects
   abbrev of_cells : (List ℕ → ℕ → List ℕ → Bool) → Entry × Entry → Bool
   of_cells test p = test (cells_of dist pivots p.0.1) radius (cells_of dist pivots p.1.1)
@@ -59,7 +56,7 @@ module _ (admitted : List ℕ → Type 0) (dist : List ℕ → List ℕ → ℕ)
 -- ---- the end of a join
 
 -- `tested` were passed over, `rest` were left out, and together they are the pairs that are looked at
-module _ (admitted : List ℕ → Type 0) (dist : List ℕ → List ℕ → ℕ) (pivots : List (List ℕ)) (bounds : BoundsHold admitted dist pivots) (radius : ℕ) (tested rest : List (Row × Row)) (looked_at : List (Entry × Entry)) (are : ArePairs admitted dist pivots (tested ++ rest)) (moved : IsPermutation looked_at (map pair_entries (tested ++ rest))) (apart : All (λ pair. verdict_of_pair dist radius pair ≡ Apart) rest) where
+module _ (admitted : Object → Type 0) (dist : Distance) (pivots : List Object) (bounds : BoundsHold admitted dist pivots) (radius : ℕ) (tested rest : List (Row × Row)) (looked_at : List (Entry × Entry)) (are : ArePairs admitted dist pivots (tested ++ rest)) (moved : IsPermutation looked_at (map pair_entries (tested ++ rest))) (apart : All (λ pair. verdict_of_pair dist radius pair ≡ Apart) rest) where
   abbrev verdict : Row × Row → Verdict
   verdict = verdict_of_pair dist radius
 

@@ -9,7 +9,8 @@ use Rattle.metric_laws.specs.LogLaws.{LogExtends-nothing, LogExtends-then, LogEx
 use Rattle.query_pass.specs.declared.verdict.Verdict.{Verdict}
 use Rattle.query_pass.specs.declared.verdict.Verdict.TheVariants.{Apart}
 use Rattle.query_pass.specs.declared.found.Found.{Found}
-use Rattle.query_pass.specs.Verdicts.{is_within, was_measured, was_sure, one_if}
+use Rattle.spb_edge.specs.Counts.{one_if}
+use Rattle.query_pass.specs.Verdicts.{is_within, was_measured, was_sure}
 use Rattle.query_pass.specs.Findings.{PassesOver, MeasuresOpen}
 
 -- what a test keeps of two lists, one after the other

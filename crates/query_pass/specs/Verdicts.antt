@@ -29,6 +29,3 @@ abbrev pub was_sure : Verdict → Bool
 was_sure Apart = false
 was_sure Sure = true
 was_sure (Measured within) = false
-
-abbrev pub one_if : Bool → ℕ
-one_if b = if b then 1 else 0

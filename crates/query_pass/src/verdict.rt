@@ -2,7 +2,8 @@
 ghost use Rattle.std.specs.Prelude.{◌≡◌, ◌+◌, ◌-◌, ◌^◌, ◌<◌, ◌∷◌, [], IsTrue, if◌then◌else◌, nat_le};
 ghost use Rattle.metric_laws.specs.Log.{LogExtends};
 ghost use Rattle.pivot_map.specs.Verdicts.{test_is_open};
-ghost use Rattle.query_pass.specs.Verdicts.{verdict_of, was_measured, one_if};
+ghost use Rattle.spb_edge.specs.Counts.{one_if};
+ghost use Rattle.query_pass.specs.Verdicts.{verdict_of, was_measured};
 
 use metric_laws::Ruler;
 use pivot_map::PairTest;

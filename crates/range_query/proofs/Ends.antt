@@ -7,8 +7,7 @@ use Rattle.metric_laws.specs.Log.{MeasuredPair, LogExtends, each_with}
 use Rattle.metric_laws.specs.LogLaws.{LogExtends-then, LogExtends-same}
 use Rattle.answer_lists.specs.Order.{sorted_by}
 use Rattle.spb_defs.specs.Pivots.{vector_of, cells_of, meets, is_sure}
-use Rattle.spb_defs.specs.Scans as scans
-use Rattle.spb_defs.specs.Scans.{needs_distance, is_included, scan_range, range_evals, range_sure, range_answer, range_visits}
+use Rattle.spb_defs.specs.Scans.{Entry, needs_distance, is_included, scan_range, range_evals, range_sure, range_answer, range_visits}
 use Rattle.pivot_map.specs.Bounds.{BoundsHold}
 use Rattle.pivot_map.specs.Rows.{AreRows, entry_of, entries_of}
 use Rattle.pivot_map.specs.Verdicts.{query_verdict, IsTestOf}
@@ -24,9 +23,6 @@ use Rattle.query_pass.specs.Findings.{PassesOver, MeasuresOpen}
 use Rattle.query_pass.specs.PassLaws.{PassesOver-kept, MeasuresOpen-kept, kept_same, count_same}
 use Rattle.query_pass.specs.Pairs.{IsRow}
 use Rattle.range_query.specs.Passes.{verdict_of_row}
-
-abbrev Entry : Type 0
-Entry = scans.Entry
 
 pub each_row : (admitted : List ℕ → Type 0) (dist : List ℕ → List ℕ → ℕ) (pivots : List (List ℕ)) (rows : List Row) → AreRows admitted dist pivots rows → All (IsRow admitted dist pivots) rows
 each_row admitted dist pivots rows are = λ k d below. record { object = are.objects k d below; vector = are.vects k d below }

@@ -7,7 +7,7 @@ use Rattle.std.proofs.lemmas.List.Elements.{All-nil, All-head, All-tail, All-wea
 use Rattle.metric_laws.specs.Log.{MeasuredPair, LogExtendsInAnyOrder}
 use Rattle.answer_lists.specs.Order.{goes_before, sorted_by}
 use Rattle.spb_defs.specs.Pivots.{cells_of}
-use Rattle.spb_defs.specs.Scans.{considered_pairs, join_answer, join_visits}
+use Rattle.spb_defs.specs.Scans.{Entry, considered_pairs, join_answer, join_visits}
 use Rattle.pivot_map.specs.Bounds.{BoundsHold}
 use Rattle.pivot_map.specs.Rows.{AreRows, entry_of, entries_of}
 use Rattle.pivot_map.specs.declared.row.Row.{Row}
@@ -17,7 +17,6 @@ use Rattle.query_pass.specs.declared.found.Found.{Found}
 use Rattle.query_pass.specs.Findings.{PassesOver, MeasuresOpen}
 use Rattle.query_pass.specs.Pairs.{IsRow, ArePairs, pair_entries, verdict_of_pair, pair_ids, pair_objects, ordered_pair}
 use Rattle.query_pass.specs.JoinLaws as laws
-use Rattle.query_pass.specs.JoinLaws.{Entry}
 use Rattle.range_query.specs.Passes.{AreAlike, pairs_of, partners_of}
 use Rattle.range_query.proofs.Passing.{passed}
 use Rattle.range_query.proofs.Ends.{each_row}

@@ -1,5 +1,6 @@
 -- What is passed over: rows for a query, and pairs of rows.
 use Rattle.std.specs.Prelude.{◌≡◌, ℕ, Bool, nat_le, List, length, map, drop, All, if◌then◌else◌}
+use Rattle.metric_laws.specs.Objects.{Object, Distance}
 use Rattle.pivot_map.specs.declared.row.Row.{Row}
 use Rattle.pivot_map.specs.Verdicts.{query_verdict}
 use Rattle.query_pass.specs.declared.verdict.Verdict.{Verdict}
@@ -7,12 +8,12 @@ use Rattle.query_pass.specs.Verdicts.{verdict_of}
 use Rattle.query_pass.specs.Pairs.{ordered_pair}
 
 -- rows of objects that are measured, with vectors of one length
-pub record AreAlike (admitted : List ℕ → Type 0) (coordinates : ℕ) (rows : List Row) : Type 0 where
+pub record AreAlike (admitted : Object → Type 0) (coordinates : ℕ) (rows : List Row) : Type 0 where
   pub objects : All (λ (row : Row). admitted row.object) rows
   pub vectors : All (λ (row : Row). coordinates ≡ length row.vect) rows
 
 -- what is found out of the query, by its vector, and a row
-abbrev pub verdict_of_row : (List ℕ → List ℕ → ℕ) → List ℕ → List ℕ → ℕ → Row → Verdict
+abbrev pub verdict_of_row : Distance → List ℕ → List ℕ → ℕ → Row → Verdict
 verdict_of_row dist asked query radius row = verdict_of (query_verdict asked radius row.vect) (nat_le (dist query row.object) radius)
 
 -- the pairs of a row with each of the others

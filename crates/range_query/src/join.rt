@@ -1,4 +1,5 @@
 //! Joins of rows.
+ghost use Rattle.metric_laws.specs.Calls.{RulerContinues};
 ghost use Rattle.std.specs.Prelude.{length, ◌≤◌, ◌≡◌, ℕ, ◌+◌, ◌^◌, ◌<◌, true, IfOk, OnOk};
 ghost use Rattle.metric_laws.specs.Log.{LogExtendsInAnyOrder};
 ghost use Rattle.spb_defs.specs.Scans.{considered_pairs, join_answer, join_visits};
@@ -38,10 +39,9 @@ pub fn join_rows<R: Ruler>(
     requires room { R.count ruler.old < 2 ^ 63 }
     ensures answer { IfOk result (λ answer. answer ≡ join_answer (R.dist (R.kind ruler.old)) pivots.now (considered_pairs same (entries_of left.now) (entries_of right.now)) r) }
     ensures count { IfOk result (λ answer. R.count ruler.new ≡ R.count ruler.old + answer.evals) }
-    ensures rises { R.count ruler.old ≤ R.count ruler.new }
+    ensures ruler { RulerContinues R.kind R.count ruler.old ruler.new }
     ensures log { OnOk result (LogExtendsInAnyOrder (R.log ruler.old) (R.log ruler.new)
         (join_visits (R.dist (R.kind ruler.old)) pivots.now (considered_pairs same (entries_of left.now) (entries_of right.now)) r)) }
-    ensures kind { R.kind ruler.new ≡ R.kind ruler.old }
 {
     let mut found = Found::new(alloc);
     for i in 0..left.len() {
@@ -82,8 +82,7 @@ fn pair_up<R: Ruler>(
     ensures found { OnOk result (PassesOver (verdict_of_pair (R.dist (R.kind ruler.old)) r) pair_ids (pairs_of same others.now row.now) found.old found.new) }
     ensures measured { OnOk result (MeasuresOpen (verdict_of_pair (R.dist (R.kind ruler.old)) r) pair_objects (pairs_of same others.now row.now)
         (R.count ruler.old) (R.log ruler.old) (R.count ruler.new) (R.log ruler.new)) }
-    ensures rises { R.count ruler.old ≤ R.count ruler.new }
-    ensures kind { R.kind ruler.new ≡ R.kind ruler.old }
+    ensures ruler { RulerContinues R.kind R.count ruler.old ruler.new }
 {
     for other in others {
         let (first, second) = in_order(row, other, same);

@@ -1,4 +1,5 @@
 //! Ranges over rows.
+ghost use Rattle.metric_laws.specs.Calls.{RulerContinues};
 ghost use Rattle.std.specs.Prelude.{◌≡◌, ℕ, ◌+◌, ◌^◌, ◌<◌, ◌≤◌, IfOk, OnOk};
 ghost use Rattle.metric_laws.specs.Log.{LogExtends, each_with};
 ghost use Rattle.spb_defs.specs.Scans.{range_answer, range_visits};
@@ -31,10 +32,9 @@ pub fn range_rows<R: Ruler>(
     requires room { R.count ruler.old < 2 ^ 63 }
     ensures answer { IfOk result (λ answer. answer ≡ range_answer (R.dist (R.kind ruler.old)) pivots.now (entries_of rows.now) q.now r) }
     ensures count { IfOk result (λ answer. R.count ruler.new ≡ R.count ruler.old + answer.evals) }
-    ensures rises { R.count ruler.old ≤ R.count ruler.new }
+    ensures ruler { RulerContinues R.kind R.count ruler.old ruler.new }
     ensures log { OnOk result (LogExtends (R.log ruler.old) (R.log ruler.new)
         (each_with q.now (range_visits (R.dist (R.kind ruler.old)) pivots.now (entries_of rows.now) q.now r))) }
-    ensures kind { R.kind ruler.new ≡ R.kind ruler.old }
 {
     let asked = map_object(ruler, pivots, q);
     let mut found = Found::new(alloc);

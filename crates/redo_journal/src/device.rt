@@ -1,11 +1,12 @@
 //! Single steps over a disk, whose contracts say what they leave if the machine stops.
 //!
 //! All but [`grow_piece`] stay within the disk's size, and so take no memory.
+ghost use Rattle.spb_edge.specs.Calls.{StaysKnown, DiskContinues};
 ghost use Rattle.std.specs.Prelude.{◌≡◌, ◌≤◌, ◌+◌, IsTrue, OnOk, length, take, drop};
 ghost use Rattle.spb_edge.specs.Fault.{CountsError, next_count};
-ghost use Rattle.spb_edge.specs.Disk.{overwritten_at};
+ghost use Rattle.spb_edge.specs.Disk.{overwritten_at, Overwrites, Extends};
 ghost use Rattle.spb_edge.specs.Crash.{IsTornWrite, FollowsBy, Includes, IsDurable, Elapses, CrashesLeaveOnly};
-ghost use Rattle.redo_journal.specs.Growth.{Lays, GrowsTo, CountsGrowFault};
+ghost use Rattle.redo_journal.specs.Growth.{CountsGrowFault};
 
 use crate::{DiskFault, GrowError};
 use spb_edge::{Disk, DiskError};
@@ -15,8 +16,7 @@ use spb_edge::{Disk, DiskError};
 pub fn write_piece<D: Disk>(disk: &mut D, at: u64, bytes: &[u8]) -> Result<(), DiskFault>
     requires { at + length bytes.now ≤ D.size_of disk.old }
     ensures image { IsTrue (D.is_known disk.old) → OnOk result (D.image disk.new ≡ overwritten_at (D.image disk.old) at bytes.now) }
-    ensures told { (D.is_known disk.new ≡ D.is_known disk.old) × (D.knows_crashes disk.new ≡ D.knows_crashes disk.old) }
-    ensures size { D.size_of disk.new ≡ D.size_of disk.old }
+    ensures disk { DiskContinues D.is_known D.knows_crashes D.size_of disk.old disk.new }
     ensures crash { FollowsBy (IsTornWrite at (length bytes.now)) (D.crash_states disk.old) (D.crash_states disk.new) }
     ensures time { Elapses (D.moment disk.old) (D.moment disk.new) (D.crash_states_since disk.old) (D.crash_states_since disk.new) (D.crash_states disk.new) }
     ensures reads { IsTrue (D.is_known disk.old) → D.reads disk.new ≡ D.reads disk.old }
@@ -37,8 +37,7 @@ pub fn read_piece<D: Disk>(disk: &mut D, at: u64, into: &mut [u8]) -> Result<(),
     ensures filled { length into.new ≡ length into.old }
     ensures quiet { D.quiet disk.old disk.new }
     ensures image { IsTrue (D.is_known disk.old) → D.image disk.new ≡ D.image disk.old }
-    ensures told { (D.is_known disk.new ≡ D.is_known disk.old) × (D.knows_crashes disk.new ≡ D.knows_crashes disk.old) }
-    ensures size { D.size_of disk.new ≡ D.size_of disk.old }
+    ensures disk { DiskContinues D.is_known D.knows_crashes D.size_of disk.old disk.new }
     ensures reads { IsTrue (D.is_known disk.old) → D.reads disk.new ≡ next_count (D.reads disk.old) }
     ensures fault { CountsError result (D.faults disk.old) (D.faults disk.new) }
 {
@@ -54,8 +53,7 @@ pub fn read_piece<D: Disk>(disk: &mut D, at: u64, into: &mut [u8]) -> Result<(),
 pub fn sync_all<D: Disk>(disk: &mut D) -> Result<(), DiskFault>
     ensures kept { IsTrue (D.is_known disk.old) → IsTrue (D.knows_crashes disk.old) → OnOk result (IsDurable (D.image disk.new) (D.crash_states disk.new)) }
     ensures image { IsTrue (D.is_known disk.old) → D.image disk.new ≡ D.image disk.old }
-    ensures told { (D.is_known disk.new ≡ D.is_known disk.old) × (D.knows_crashes disk.new ≡ D.knows_crashes disk.old) }
-    ensures size { D.size_of disk.new ≡ D.size_of disk.old }
+    ensures disk { DiskContinues D.is_known D.knows_crashes D.size_of disk.old disk.new }
     ensures crash { Includes (D.crash_states disk.old) (D.crash_states disk.new) }
     ensures time { Elapses (D.moment disk.old) (D.moment disk.new) (D.crash_states_since disk.old) (D.crash_states_since disk.new) (D.crash_states disk.new) }
     ensures reads { IsTrue (D.is_known disk.old) → D.reads disk.new ≡ D.reads disk.old }
@@ -79,8 +77,7 @@ pub fn write_and_keep<D: Disk>(disk: &mut D, at: u64, bytes: &[u8]) -> Result<()
     ensures kept { IsTrue (D.is_known disk.old) → IsTrue (D.knows_crashes disk.old) → OnOk result (IsDurable (D.image disk.new) (D.crash_states disk.new)) }
     ensures any_moment { IsDurable (D.image disk.old) (D.crash_states disk.old)
         → CrashesLeaveOnly D.moment D.crash_states_since disk.old disk.new (IsTornWrite at (length bytes.now) (D.image disk.old)) }
-    ensures told { (D.is_known disk.new ≡ D.is_known disk.old) × (D.knows_crashes disk.new ≡ D.knows_crashes disk.old) }
-    ensures size { D.size_of disk.new ≡ D.size_of disk.old }
+    ensures disk { DiskContinues D.is_known D.knows_crashes D.size_of disk.old disk.new }
     ensures reads { IsTrue (D.is_known disk.old) → D.reads disk.new ≡ D.reads disk.old }
     ensures fault { CountsError result (D.faults disk.old) (D.faults disk.new) }
 {
@@ -95,9 +92,9 @@ pub fn write_and_keep<D: Disk>(disk: &mut D, at: u64, bytes: &[u8]) -> Result<()
 /// the disk's end. One device call.
 pub fn grow_piece<D: Disk>(disk: &mut D, at: u64, bytes: &[u8]) -> Result<(), GrowError>
     requires { at ≤ D.size_of disk.old }
-    ensures image { IsTrue (D.is_known disk.old) → Lays result at bytes.now (D.image disk.old) (D.image disk.new) }
-    ensures told { (D.is_known disk.new ≡ D.is_known disk.old) × (D.knows_crashes disk.new ≡ D.knows_crashes disk.old) }
-    ensures size { GrowsTo result (D.size_of disk.old) (at + length bytes.now) (D.size_of disk.new) }
+    ensures image { IsTrue (D.is_known disk.old) → Overwrites result at bytes.now (D.image disk.old) (D.image disk.new) }
+    ensures told { StaysKnown D.is_known D.knows_crashes disk.old disk.new }
+    ensures size { Extends result (D.size_of disk.old) (at + length bytes.now) (D.size_of disk.new) }
     ensures crash { FollowsBy (IsTornWrite at (length bytes.now)) (D.crash_states disk.old) (D.crash_states disk.new) }
     ensures time { Elapses (D.moment disk.old) (D.moment disk.new) (D.crash_states_since disk.old) (D.crash_states_since disk.new) (D.crash_states disk.new) }
     ensures reads { IsTrue (D.is_known disk.old) → D.reads disk.new ≡ D.reads disk.old }

@@ -1,4 +1,5 @@
 //! A journal with a gate over a disk.
+ghost use Rattle.spb_edge.specs.Calls.{StaysKnown};
 ghost use Rattle.std.specs.Prelude.{◌≡◌, ◌⊎◌, ◌*◌, ◌<◌, ◌≤◌, ◌==◌, [], List, ℕ, false, IsTrue, OnOk, IfOk, IfErr, IfSome, MatchOption, None, Some, length};
 ghost use Rattle.std.specs.Map.{lookup};
 ghost use Rattle.spb_edge.specs.Fault.{CountsError, next_count};
@@ -118,7 +119,7 @@ impl<'a, D: Disk> Journal<'a, D> {
         ensures cleared { OnOk result (staged_of self.new ≡ []) }
         ensures pages { HasPages D.size_of self.new }
         ensures total { total_of self.new ≡ total_of self.old }
-        ensures told { (D.is_known (disk_of self.new) ≡ D.is_known (disk_of self.old)) × (D.knows_crashes (disk_of self.new) ≡ D.knows_crashes (disk_of self.old)) }
+        ensures told { StaysKnown D.is_known D.knows_crashes (disk_of self.old) (disk_of self.new) }
         ensures fault { CountsRecoverFault result (D.faults (disk_of self.old)) (D.faults (disk_of self.new)) }
         ensures name { self.new.disk.ghost_name ≡ self.old.disk.ghost_name }
     {
@@ -136,7 +137,7 @@ impl<'a, D: Disk> Journal<'a, D> {
         ensures reads { IsTrue (D.is_known (disk_of self.old)) → D.reads (disk_of self.new) ≡ next_count (D.reads (disk_of self.old)) }
         ensures staged { (staged_of self.new ≡ staged_of self.old) × (total_of self.new ≡ total_of self.old) }
         ensures pages { HasPages D.size_of self.new }
-        ensures told { (D.is_known (disk_of self.new) ≡ D.is_known (disk_of self.old)) × (D.knows_crashes (disk_of self.new) ≡ D.knows_crashes (disk_of self.old)) }
+        ensures told { StaysKnown D.is_known D.knows_crashes (disk_of self.old) (disk_of self.new) }
         ensures fault { CountsError result (D.faults (disk_of self.old)) (D.faults (disk_of self.new)) }
         ensures name { self.new.disk.ghost_name ≡ self.old.disk.ghost_name }
     {
@@ -197,7 +198,7 @@ impl<'a, D: Disk> Journal<'a, D> {
         ensures staged { (staged_of self.new ≡ staged_of self.old) × (total_of self.new ≡ total_of self.old) }
         ensures pages { HasPages D.size_of self.new }
         ensures reads { IsTrue (D.is_known (disk_of self.old)) → D.reads (disk_of self.new) ≡ D.reads (disk_of self.old) }
-        ensures told { (D.is_known (disk_of self.new) ≡ D.is_known (disk_of self.old)) × (D.knows_crashes (disk_of self.new) ≡ D.knows_crashes (disk_of self.old)) }
+        ensures told { StaysKnown D.is_known D.knows_crashes (disk_of self.old) (disk_of self.new) }
         ensures fault { CountsError result (D.faults (disk_of self.old)) (D.faults (disk_of self.new)) }
         ensures name { self.new.disk.ghost_name ≡ self.old.disk.ghost_name }
     {
@@ -226,7 +227,7 @@ impl<'a, D: Disk> Journal<'a, D> {
         ensures total { total_of self.new ≡ total_of self.old }
         ensures pages { HasPages D.size_of self.new }
         ensures reads { IsTrue (D.is_known (disk_of self.old)) → D.reads (disk_of self.new) ≡ D.reads (disk_of self.old) }
-        ensures told { (D.is_known (disk_of self.new) ≡ D.is_known (disk_of self.old)) × (D.knows_crashes (disk_of self.new) ≡ D.knows_crashes (disk_of self.old)) }
+        ensures told { StaysKnown D.is_known D.knows_crashes (disk_of self.old) (disk_of self.new) }
         ensures fault { CountsError result (D.faults (disk_of self.old)) (D.faults (disk_of self.new)) }
         ensures name { self.new.disk.ghost_name ≡ self.old.disk.ghost_name }
     {

@@ -1,4 +1,5 @@
 //! The journal's moves over a disk: a change into the journal, and from there home.
+ghost use Rattle.spb_edge.specs.Calls.{DiskContinues};
 ghost use Rattle.std.specs.Prelude.{◌≡◌, ◌+◌, ◌*◌, ◌<◌, ◌≤◌, [], List, ℕ, false, IsTrue, OnOk, length};
 ghost use Rattle.std.specs.Map.{keys_of};
 ghost use Rattle.spb_edge.specs.Fault.{CountsError};
@@ -27,8 +28,7 @@ pub(crate) fn commit_staged<D: Disk>(disk: &mut D, staged: &mut Staged) -> Resul
         → CrashesLeaveOnly D.moment D.crash_states_since disk.old disk.new (IsBeforeOrAfter staged.old.total staged.old.pages marks home) }
     ensures kept { IsTrue (D.is_known disk.old) → IsTrue (D.knows_crashes disk.old) → OnOk result (IsDurable (D.image disk.new) (D.crash_states disk.new)) }
     ensures pages { (staged.new.pages ≡ staged.old.pages) × (staged.new.total ≡ staged.old.total) }
-    ensures told { (D.is_known disk.new ≡ D.is_known disk.old) × (D.knows_crashes disk.new ≡ D.knows_crashes disk.old) }
-    ensures same_size { D.size_of disk.new ≡ D.size_of disk.old }
+    ensures disk { DiskContinues D.is_known D.knows_crashes D.size_of disk.old disk.new }
     ensures reads { IsTrue (D.is_known disk.old) → D.reads disk.new ≡ D.reads disk.old }
     ensures fault { CountsError result (D.faults disk.old) (D.faults disk.new) }
 {
@@ -47,8 +47,7 @@ fn write_home<D: Disk>(disk: &mut D, n: u32, page: &[u8]) -> Result<(), DiskFaul
     ensures crash { (total : ℕ) (numbers start : List ℕ) → length start ≡ PAGE_SIZE * total → n < total → IsTrue (is_listed n numbers)
         → ((c : List ℕ) → D.crash_states disk.old c → DiffersWithin total numbers start c) → (c : List ℕ) → D.crash_states disk.new c → DiffersWithin total numbers start c }
     ensures time { Elapses (D.moment disk.old) (D.moment disk.new) (D.crash_states_since disk.old) (D.crash_states_since disk.new) (D.crash_states disk.new) }
-    ensures told { (D.is_known disk.new ≡ D.is_known disk.old) × (D.knows_crashes disk.new ≡ D.knows_crashes disk.old) }
-    ensures same_size { D.size_of disk.new ≡ D.size_of disk.old }
+    ensures disk { DiskContinues D.is_known D.knows_crashes D.size_of disk.old disk.new }
     ensures reads { IsTrue (D.is_known disk.old) → D.reads disk.new ≡ D.reads disk.old }
     ensures fault { CountsError result (D.faults disk.old) (D.faults disk.new) }
 {
@@ -66,8 +65,7 @@ fn write_all_home<D: Disk>(disk: &mut D, staged: &Staged) -> Result<(), DiskFaul
     ensures crash { IsTrue (D.is_known disk.old) → IsDurable (D.image disk.old) (D.crash_states disk.old)
         → (c : List ℕ) → D.crash_states disk.new c → DiffersWithin staged.now.total (keys_of staged.now.pages) (D.image disk.old) c }
     ensures homes { AreHomes staged.now.total 0 (keys_of staged.now.pages) }
-    ensures told { (D.is_known disk.new ≡ D.is_known disk.old) × (D.knows_crashes disk.new ≡ D.knows_crashes disk.old) }
-    ensures same_size { D.size_of disk.new ≡ D.size_of disk.old }
+    ensures disk { DiskContinues D.is_known D.knows_crashes D.size_of disk.old disk.new }
     ensures reads { IsTrue (D.is_known disk.old) → D.reads disk.new ≡ D.reads disk.old }
     ensures fault { CountsError result (D.faults disk.old) (D.faults disk.new) }
 {
@@ -90,8 +88,7 @@ pub(crate) fn settle_staged<D: Disk>(disk: &mut D, staged: &mut Staged) -> Resul
     ensures kept { IsTrue (D.is_known disk.old) → IsTrue (D.knows_crashes disk.old) → OnOk result (IsDurable (D.image disk.new) (D.crash_states disk.new)) }
     ensures cleared { OnOk result (staged.new.pages ≡ []) }
     ensures total { staged.new.total ≡ staged.old.total }
-    ensures told { (D.is_known disk.new ≡ D.is_known disk.old) × (D.knows_crashes disk.new ≡ D.knows_crashes disk.old) }
-    ensures same_size { D.size_of disk.new ≡ D.size_of disk.old }
+    ensures disk { DiskContinues D.is_known D.knows_crashes D.size_of disk.old disk.new }
     ensures reads { IsTrue (D.is_known disk.old) → D.reads disk.new ≡ D.reads disk.old }
     ensures fault { CountsError result (D.faults disk.old) (D.faults disk.new) }
 {

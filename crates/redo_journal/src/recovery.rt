@@ -1,4 +1,5 @@
 //! Reading what the journal holds, and finishing it.
+ghost use Rattle.spb_edge.specs.Calls.{DiskContinues};
 ghost use Rattle.std.specs.Prelude.{◌≡◌, ◌⊎◌, ◌+◌, ◌*◌, ◌<◌, ◌≤◌, [], List, ℕ, false, IsTrue, OnOk, IfOk, length};
 ghost use Rattle.spb_edge.specs.Fault.{CountsError, next_count};
 ghost use Rattle.spb_edge.specs.Crash.{IsDurable, CrashesLeaveOnly};
@@ -21,8 +22,7 @@ fn gate_is_open<D: Disk>(disk: &mut D) -> Result<bool, DiskFault>
     ensures gate { IsTrue (D.is_known disk.old) → IfOk result (λ opened. opened ≡ has_open_gate (D.image disk.old)) }
     ensures quiet { D.quiet disk.old disk.new }
     ensures image { IsTrue (D.is_known disk.old) → D.image disk.new ≡ D.image disk.old }
-    ensures told { (D.is_known disk.new ≡ D.is_known disk.old) × (D.knows_crashes disk.new ≡ D.knows_crashes disk.old) }
-    ensures size { D.size_of disk.new ≡ D.size_of disk.old }
+    ensures disk { DiskContinues D.is_known D.knows_crashes D.size_of disk.old disk.new }
     ensures fault { CountsError result (D.faults disk.old) (D.faults disk.new) }
 {
     let mut gate = [0];
@@ -40,8 +40,7 @@ pub(crate) fn read_page<D: Disk>(
     ensures data { IsTrue (D.is_known disk.old) → OnOk result (into.new ≡ page (D.image disk.old) n) }
     ensures quiet { D.quiet disk.old disk.new }
     ensures image { IsTrue (D.is_known disk.old) → D.image disk.new ≡ D.image disk.old }
-    ensures told { (D.is_known disk.new ≡ D.is_known disk.old) × (D.knows_crashes disk.new ≡ D.knows_crashes disk.old) }
-    ensures size { D.size_of disk.new ≡ D.size_of disk.old }
+    ensures disk { DiskContinues D.is_known D.knows_crashes D.size_of disk.old disk.new }
     ensures reads { IsTrue (D.is_known disk.old) → D.reads disk.new ≡ next_count (D.reads disk.old) }
     ensures fault { CountsError result (D.faults disk.old) (D.faults disk.new) }
 {
@@ -57,8 +56,7 @@ fn find_change<D: Disk>(disk: &mut D, staged: &mut Staged) -> Result<bool, Recov
     ensures total { staged.new.total ≡ staged.old.total }
     ensures quiet { D.quiet disk.old disk.new }
     ensures image { IsTrue (D.is_known disk.old) → D.image disk.new ≡ D.image disk.old }
-    ensures told { (D.is_known disk.new ≡ D.is_known disk.old) × (D.knows_crashes disk.new ≡ D.knows_crashes disk.old) }
-    ensures same_size { D.size_of disk.new ≡ D.size_of disk.old }
+    ensures disk { DiskContinues D.is_known D.knows_crashes D.size_of disk.old disk.new }
     ensures fault { CountsRecoverFault result (D.faults disk.old) (D.faults disk.new) }
 {
     if !gate_is_open(disk)? {
@@ -89,8 +87,7 @@ fn find_kept_change<D: Disk>(disk: &mut D, staged: &mut Staged) -> Result<bool, 
     ensures any_moment { CrashesLeaveOnly D.moment D.crash_states_since disk.old disk.new (D.crash_states disk.old) }
     ensures kept { IsTrue (D.is_known disk.old) → IsTrue (D.knows_crashes disk.old) → OnOk result (IsDurable (D.image disk.new) (D.crash_states disk.new)) }
     ensures image { IsTrue (D.is_known disk.old) → D.image disk.new ≡ D.image disk.old }
-    ensures told { (D.is_known disk.new ≡ D.is_known disk.old) × (D.knows_crashes disk.new ≡ D.knows_crashes disk.old) }
-    ensures same_size { D.size_of disk.new ≡ D.size_of disk.old }
+    ensures disk { DiskContinues D.is_known D.knows_crashes D.size_of disk.old disk.new }
     ensures fault { CountsRecoverFault result (D.faults disk.old) (D.faults disk.new) }
 {
     sync_all(disk)?;
@@ -110,8 +107,7 @@ pub(crate) fn recover_staged<D: Disk>(disk: &mut D, staged: &mut Staged) -> Resu
     ensures kept { IsTrue (D.is_known disk.old) → IsTrue (D.knows_crashes disk.old) → OnOk result (IsDurable (D.image disk.new) (D.crash_states disk.new)) }
     ensures cleared { OnOk result (staged.new.pages ≡ []) }
     ensures total { staged.new.total ≡ staged.old.total }
-    ensures told { (D.is_known disk.new ≡ D.is_known disk.old) × (D.knows_crashes disk.new ≡ D.knows_crashes disk.old) }
-    ensures same_size { D.size_of disk.new ≡ D.size_of disk.old }
+    ensures disk { DiskContinues D.is_known D.knows_crashes D.size_of disk.old disk.new }
     ensures fault { CountsRecoverFault result (D.faults disk.old) (D.faults disk.new) }
 {
     if find_kept_change(disk, staged)? {

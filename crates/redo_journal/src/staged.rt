@@ -1,4 +1,5 @@
 //! The pages of a change on its way to the disk.
+ghost use Rattle.spb_edge.specs.Calls.{DiskContinues};
 ghost use Rattle.std.specs.Prelude.{◌≡◌, ◌+◌, ◌*◌, ◌<◌, ◌≤◌, ◌==◌, [], ◌∷◌, ◌++◌, IsTrue, IfOk, IfSome, OnOk, MatchOption, MatchResult, None, Some, length, take, drop, slice_index, vec_len, vec_capacity};
 ghost use Rattle.std.specs.Map.{keys_of, lookup};
 ghost use Rattle.redo_journal.specs.declared.layout.TheConstants.{PAGE_SIZE, CHANGE_LIMIT, FIRST_IMAGE, LEAST_PAGES};
@@ -114,8 +115,7 @@ impl Staged {
         ensures total { self.new.total ≡ self.old.total }
         ensures quiet { D.quiet disk.old disk.new }
         ensures image { IsTrue (D.is_known disk.old) → D.image disk.new ≡ D.image disk.old }
-        ensures told { (D.is_known disk.new ≡ D.is_known disk.old) × (D.knows_crashes disk.new ≡ D.knows_crashes disk.old) }
-        ensures size { D.size_of disk.new ≡ D.size_of disk.old }
+        ensures disk { DiskContinues D.is_known D.knows_crashes D.size_of disk.old disk.new }
         ensures fault { CountsError result (D.faults disk.old) (D.faults disk.new) }
     {
         self.numbers = numbers;
@@ -175,8 +175,7 @@ fn read_images<D: Disk>(disk: &mut D, body: &mut Vec<u8>, count: usize) -> Resul
     ensures capacity { vec_capacity body.old ≤ vec_capacity body.new }
     ensures quiet { D.quiet disk.old disk.new }
     ensures image { IsTrue (D.is_known disk.old) → D.image disk.new ≡ D.image disk.old }
-    ensures told { (D.is_known disk.new ≡ D.is_known disk.old) × (D.knows_crashes disk.new ≡ D.knows_crashes disk.old) }
-    ensures size { D.size_of disk.new ≡ D.size_of disk.old }
+    ensures disk { DiskContinues D.is_known D.knows_crashes D.size_of disk.old disk.new }
     ensures fault { CountsError result (D.faults disk.old) (D.faults disk.new) }
 {
     let Ok(()) = body.resize(PAGE_SIZE * (1 + count), 0) else {

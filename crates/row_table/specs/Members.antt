@@ -10,7 +10,7 @@ use Rattle.std.proofs.lemmas.List.Elements.{All-push, All-filter}
 use Rattle.std.proofs.lemmas.List.Sorted.{IsPermutation-sym, All-permutation, length_permutation}
 use Rattle.std.proofs.lemmas.List.Sums.{sum_by-cons, sum_by-set}
 use Rattle.spb_defs.specs.Pivots.{cells_of}
-use Rattle.spb_defs.specs.Scans.{Row as Entry}
+use Rattle.spb_defs.specs.Scans.{Entry}
 use Rattle.spb_defs.specs.State.{key_cmp, with_object, without_object, member_count, entries_in}
 use Rattle.pivot_map.specs.declared.row.Row.{Row}
 use Rattle.pivot_map.specs.Rows.{entry_of, entries_of, AreRows}

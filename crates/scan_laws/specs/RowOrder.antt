@@ -4,6 +4,7 @@ use Rattle.std.specs.Prelude.{nat_lt, nat_le, count_by, length, filter}
 use Rattle.std.specs.List.{slice_get}
 use Rattle.std.specs.List.Sorted.{IsPermutation}
 use Rattle.std.proofs.lemmas.List.Sorted.{IsPermutation-trans, IsPermutation-map, sum_by-IsPermutation}
+use Rattle.metric_laws.specs.Objects.{Object, Distance}
 use Rattle.answer_lists.specs.Order.{goes_before, sorted_by}
 use Rattle.answer_lists.specs.OrderLaws.{nat_order, pair_order, sorted_by-same}
 use Rattle.answer_lists.specs.Permutations.{permutation-filter, permutation-flat_map, permutation-pieces}
@@ -16,7 +17,7 @@ use Rattle.spb_defs.specs.Scans.{Entry, needs_distance, is_included, range_evals
 count-moved : {A : Type 0} (p : A → Bool) (xs ys : List A) → IsPermutation xs ys → count_by p xs ≡ count_by p ys
 count-moved p xs ys moved = sym (sum_by-IsPermutation _ xs ys moved)
 
-module _ (dist : List ℕ → List ℕ → ℕ) (pivots : List (List ℕ)) (rows rows' : List Entry) (moved : IsPermutation rows rows') (query : List ℕ) where
+module _ (dist : Distance) (pivots : List Object) (rows rows' : List Entry) (moved : IsPermutation rows rows') (query : List ℕ) where
   pub range_answer-moved : (radius : ℕ) → range_answer dist pivots rows query radius ≡ range_answer dist pivots rows' query radius
   unfolding range_answer
   range_answer-moved radius =
@@ -53,7 +54,7 @@ pub considered_pairs-moved : (same : Bool) (left left' right right' : List Entry
 considered_pairs-moved true left left' right right' lefts rights = permutation-filter (λ p. nat_lt p.0.0 p.1.0) (product left right) (product left' right') (product-moved left left' right right' lefts rights)
 considered_pairs-moved false left left' right right' lefts rights = product-moved left left' right right' lefts rights
 
-module _ (dist : List ℕ → List ℕ → ℕ) (pivots : List (List ℕ)) (pairs pairs' : List (Entry × Entry)) (moved : IsPermutation pairs pairs') (radius : ℕ) where
+module _ (dist : Distance) (pivots : List Object) (pairs pairs' : List (Entry × Entry)) (moved : IsPermutation pairs pairs') (radius : ℕ) where
   pub join_answer-moved : join_answer dist pivots pairs radius ≡ join_answer dist pivots pairs' radius
   unfolding join_answer
   join_answer-moved =

@@ -3,6 +3,7 @@ use Rattle.std.specs.Prelude.{◌≡◌, ℕ, List, Result, Ok, Err}
 use Rattle.std.specs.List.Sorted.{IsPermutation}
 use Rattle.spb_edge.specs.declared.reader.Line.{Line}
 use Rattle.spb_edge.specs.declared.memory.Memory.{Memory}
+use Rattle.metric_laws.specs.Objects.{Object}
 use Rattle.spb_defs.specs.declared.Command.{Command}
 use Rattle.spb_defs.specs.declared.Reply.{Reply}
 use Rattle.spb_defs.specs.State.{State, entries_in}
@@ -13,7 +14,7 @@ use Rattle.pivot_map.specs.declared.row.Row.{Row}
 use Rattle.pivot_map.specs.Rows.{entries_of}
 
 -- the state has these pivots, and its collection these rows, in any order
-pub record HoldsRows (s : State) (c : ℕ) (known : List (List ℕ)) (table : List Row) : Type 0 where
+pub record HoldsRows (s : State) (c : ℕ) (known : List Object) (table : List Row) : Type 0 where
   pub pivots : s.pivots ≡ known
   pub rows : IsPermutation (entries_in s.members c) (entries_of table)
 

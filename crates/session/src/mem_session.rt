@@ -1,3 +1,4 @@
+ghost use Rattle.metric_laws.specs.Calls.{RulerContinues};
 ghost use Rattle.std.specs.Prelude.{◌≡◌, false, IsTrue, IfOk};
 
 use crate::store::Store;
@@ -95,8 +96,7 @@ impl<M: Metric> MemSession<M> {
         requires room { R.count ruler.old < 2 ^ 63 }
         ensures answers { AnswersTurn result self.old line.now self.new }
         ensures space { self.new.state.space ≡ self.old.state.space }
-        ensures kind { R.kind ruler.new ≡ R.kind ruler.old }
-        ensures rises { R.count ruler.old ≤ R.count ruler.new }
+        ensures ruler { RulerContinues R.kind R.count ruler.old ruler.new }
         ensures count { IfOk result (λ said. R.count ruler.new ≡ R.count ruler.old + evals_of said) }
         ensures few { IfOk result (λ said. evals_of said ≤ 2 ^ 32) }
         ensures spent { result ≡ Err Ending.Spent → ruler.new ≡ ruler.old }

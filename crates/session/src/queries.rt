@@ -1,4 +1,5 @@
 //! Queries over rows, with the state that they stand for as a premise: a session calls them on its own rows.
+ghost use Rattle.metric_laws.specs.Calls.{RulerContinues};
 ghost use Rattle.std.specs.Prelude.{◌≡◌, ◌+◌, ◌^◌, ◌<◌, ◌≤◌, true, IfOk};
 ghost use Rattle.metrics_builtin.specs.declared.Space.{Space};
 ghost use Rattle.spb_defs.specs.declared.Command.{Command};
@@ -39,8 +40,7 @@ pub(crate) fn range_of<R: Ruler>(
         → IfOk result (λ said. said ≡ reply_of s (Command.Range c radius query.now)) }
     ensures object { (space : Space) → IfOk result (λ said. HoldsObject space said) }
     ensures count { IfOk result (λ said. R.count ruler.new ≡ R.count ruler.old + evals_of said) }
-    ensures rises { R.count ruler.old ≤ R.count ruler.new }
-    ensures kind { R.kind ruler.new ≡ R.kind ruler.old }
+    ensures ruler { RulerContinues R.kind R.count ruler.old ruler.new }
 {
     let found = range_rows(alloc, rows, pivots, ruler, query.as_slice(), radius)?;
     Ok(Reply::Range {
@@ -73,8 +73,7 @@ pub(crate) fn near_of<R: Ruler>(
         → IfOk result (λ said. said ≡ reply_of s (Command.Near c k query.now)) }
     ensures object { (space : Space) → IfOk result (λ said. HoldsObject space said) }
     ensures count { IfOk result (λ said. R.count ruler.new ≡ R.count ruler.old + evals_of said) }
-    ensures rises { R.count ruler.old ≤ R.count ruler.new }
-    ensures kind { R.kind ruler.new ≡ R.kind ruler.old }
+    ensures ruler { RulerContinues R.kind R.count ruler.old ruler.new }
 {
     let found = near_rows(alloc, rows, pivots, ruler, query.as_slice(), k)?;
     Ok(Reply::Near {
@@ -109,8 +108,7 @@ pub(crate) fn join_of<R: Ruler>(
         → IfOk result (λ said. said ≡ reply_of s (Command.Join c d radius)) }
     ensures object { (space : Space) → IfOk result (λ said. HoldsObject space said) }
     ensures count { IfOk result (λ said. R.count ruler.new ≡ R.count ruler.old + evals_of said) }
-    ensures rises { R.count ruler.old ≤ R.count ruler.new }
-    ensures kind { R.kind ruler.new ≡ R.kind ruler.old }
+    ensures ruler { RulerContinues R.kind R.count ruler.old ruler.new }
 {
     let found = join_rows(alloc, left, right, pivots, c == d, ruler, radius)?;
     Ok(Reply::Join {

@@ -25,7 +25,8 @@ pub(crate) struct Store {
 }
 
 impl Store {
-    ghost use Rattle.std.specs.Prelude.{◌≡◌, ◌+◌, ◌^◌, ◌<◌, ◌≤◌, None, false, IsTrue, IfOk, OnOk, length, sum_by};
+    ghost use Rattle.metric_laws.specs.Calls.{RulerContinues};
+ghost use Rattle.std.specs.Prelude.{◌≡◌, ◌+◌, ◌^◌, ◌<◌, ◌≤◌, None, false, IsTrue, IfOk, OnOk, length, sum_by};
     ghost use Rattle.metrics_builtin.specs.Space.{fits, IsValid};
     ghost use Rattle.spb_edge.specs.declared.reader.Line.{Line};
     ghost use Rattle.spb_defs.specs.declared.Command.{Command};
@@ -78,8 +79,7 @@ impl Store {
         ensures object { IfOk result (λ said. HoldsObject self.old.space said) }
         ensures few { IfOk result (λ said. evals_of said ≤ 2 ^ 32) }
         ensures count { IfOk result (λ said. R.count ruler.new ≡ R.count ruler.old + evals_of said) }
-        ensures rises { R.count ruler.old ≤ R.count ruler.new }
-        ensures kind { R.kind ruler.new ≡ R.kind ruler.old }
+        ensures ruler { RulerContinues R.kind R.count ruler.old ruler.new }
         ensures space { self.new.space ≡ self.old.space }
         ensures sound { IsStore self.new }
     {
@@ -107,8 +107,7 @@ impl Store {
         ensures object { IfOk result (λ said. HoldsObject self.old.space said) }
         ensures few { IfOk result (λ said. evals_of said ≤ 2 ^ 32) }
         ensures count { IfOk result (λ said. R.count ruler.new ≡ R.count ruler.old + evals_of said) }
-        ensures rises { R.count ruler.old ≤ R.count ruler.new }
-        ensures kind { R.kind ruler.new ≡ R.kind ruler.old }
+        ensures ruler { RulerContinues R.kind R.count ruler.old ruler.new }
         ensures space { self.new.space ≡ self.old.space }
         ensures sound { IsStore self.new }
     {
@@ -161,8 +160,7 @@ impl Store {
         ensures next { OnOk result (state_of self.new ≡ changed_state (state_of self.old) command) }
         ensures object { IfOk result (λ said. HoldsObject self.old.space said) }
         ensures count { IfOk result (λ said. R.count ruler.new ≡ R.count ruler.old + evals_of said) }
-        ensures rises { R.count ruler.old ≤ R.count ruler.new }
-        ensures kind { R.kind ruler.new ≡ R.kind ruler.old }
+        ensures ruler { RulerContinues R.kind R.count ruler.old ruler.new }
         ensures space { self.new.space ≡ self.old.space }
         ensures sound { IsStore self.new }
     {
@@ -334,8 +332,7 @@ impl Store {
         ensures reply { IfOk result (λ said. said ≡ reply_of (state_of self.now) (Command.Range c radius query.now)) }
         ensures object { IfOk result (λ said. HoldsObject self.now.space said) }
         ensures count { IfOk result (λ said. R.count ruler.new ≡ R.count ruler.old + evals_of said) }
-        ensures rises { R.count ruler.old ≤ R.count ruler.new }
-        ensures kind { R.kind ruler.new ≡ R.kind ruler.old }
+        ensures ruler { RulerContinues R.kind R.count ruler.old ruler.new }
     {
         let rows = self.tables[c as usize].rows();
         range_of(alloc, rows, self.pivots.as_slice(), ruler, c, radius, query)
@@ -359,8 +356,7 @@ impl Store {
         ensures reply { IfOk result (λ said. said ≡ reply_of (state_of self.now) (Command.Near c k query.now)) }
         ensures object { IfOk result (λ said. HoldsObject self.now.space said) }
         ensures count { IfOk result (λ said. R.count ruler.new ≡ R.count ruler.old + evals_of said) }
-        ensures rises { R.count ruler.old ≤ R.count ruler.new }
-        ensures kind { R.kind ruler.new ≡ R.kind ruler.old }
+        ensures ruler { RulerContinues R.kind R.count ruler.old ruler.new }
     {
         let rows = self.tables[c as usize].rows();
         near_of(alloc, rows, self.pivots.as_slice(), ruler, c, k, query)
@@ -383,8 +379,7 @@ impl Store {
         ensures reply { IfOk result (λ said. said ≡ reply_of (state_of self.now) (Command.Join c d radius)) }
         ensures object { IfOk result (λ said. HoldsObject self.now.space said) }
         ensures count { IfOk result (λ said. R.count ruler.new ≡ R.count ruler.old + evals_of said) }
-        ensures rises { R.count ruler.old ≤ R.count ruler.new }
-        ensures kind { R.kind ruler.new ≡ R.kind ruler.old }
+        ensures ruler { RulerContinues R.kind R.count ruler.old ruler.new }
     {
         let left = self.tables[c as usize].rows();
         let right = self.tables[d as usize].rows();

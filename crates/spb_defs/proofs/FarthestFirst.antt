@@ -12,7 +12,7 @@ use Rattle.std.proofs.lemmas.List.Folds.{Any-from_list_any, list_any_none}
 use Rattle.std.proofs.lemmas.List.FromFn.{get_or-map-range_with_len, length-map-range_with_len, get_or-range_with_len, length-range_with_len}
 use Rattle.std.proofs.lemmas.Map.Keys.{IsDistinct-push, IsDistinct-from_apart, apart_from_distinct}
 use Rattle.std.proofs.lemmas.Map.Made.{length-le_from_is_member}
-use Rattle.spb_defs.specs.Pivots.{greatest}
+use Rattle.metrics_builtin.specs.Vectors.{greatest}
 use Rattle.spb_defs.specs.Choice.{worth, first_place, next_place, chosen_places}
 use Rattle.spb_defs.specs.ChoiceLaws.{first_place-holds, first_place-within, greatest-above, chosen-length, next-within, chosen-within}
 use Rattle.spb_defs.specs.Farthest.{sum_to, IsFarthestFirst, IsChoice}

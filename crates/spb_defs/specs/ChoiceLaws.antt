@@ -5,7 +5,8 @@ use Rattle.std.proofs.lemmas.Bool.Decides.{nat_tests}
 use Rattle.std.proofs.lemmas.List.{length-map}
 use Rattle.std.proofs.lemmas.List.Elements.{All-append, All-cons, All-get_or, All-map}
 use Rattle.std.proofs.lemmas.List.FromFn.{length-map-range_with_len}
-use Rattle.spb_defs.specs.Pivots.{greatest}
+use Rattle.metric_laws.specs.Objects.{Object, Distance}
+use Rattle.metrics_builtin.specs.Vectors.{greatest}
 use Rattle.spb_defs.specs.Choice.{sample_at, worth, first_place, next_place, chosen_places, chosen_samples}
 
 -- ---- the first place of the greatest
@@ -64,7 +65,7 @@ greatest-above (x ∷ xs) (suc k) =
 -- ---- the places
 
 -- so many places are chosen
-pub chosen-length : (dist : List ℕ → List ℕ → ℕ) (samples : List (List ℕ)) (n : ℕ) → length (chosen_places dist samples n) ≡ n
+pub chosen-length : (dist : Distance) (samples : List Object) (n : ℕ) → length (chosen_places dist samples n) ≡ n
 unfolding chosen_places
 chosen-length dist samples zero = refl
 chosen-length dist samples (suc n) =
@@ -73,7 +74,7 @@ chosen-length dist samples (suc n) =
     length-append front (next_place dist samples front ∷ []) ∙ omega arith
 
 -- each of them is a place of a sample
-pub next-within : (dist : List ℕ → List ℕ → ℕ) (samples : List (List ℕ)) (chosen : List ℕ) → 0 < length samples → next_place dist samples chosen < length samples
+pub next-within : (dist : Distance) (samples : List Object) (chosen : List ℕ) → 0 < length samples → next_place dist samples chosen < length samples
 next-within dist samples chosen some =
     let worths = map (worth dist samples chosen) (range_with_len 0 (length samples)) in
     let many : length worths ≡ length samples = length-map-range_with_len (worth dist samples chosen) 0 (length samples) in
@@ -83,7 +84,7 @@ next-within dist samples chosen some =
 none-within : (m : ℕ) → All (λ (place : ℕ). place < m) []
 none-within m k d below = absurd (omega arith)
 
-pub chosen-within : (dist : List ℕ → List ℕ → ℕ) (samples : List (List ℕ)) (n : ℕ) → n ≤ length samples → All (λ (place : ℕ). place < length samples) (chosen_places dist samples n)
+pub chosen-within : (dist : Distance) (samples : List Object) (n : ℕ) → n ≤ length samples → All (λ (place : ℕ). place < length samples) (chosen_places dist samples n)
 unfolding chosen_places
 chosen-within dist samples zero enough = none-within (length samples)
 chosen-within dist samples (suc n) enough =
@@ -93,10 +94,10 @@ chosen-within dist samples (suc n) enough =
     (All-cons (λ (place : ℕ). place < length samples) (next_place dist samples front) [] next (none-within (length samples)))
 
 -- the objects at the places: as many, and each is a sample
-pub length-chosen_samples : (dist : List ℕ → List ℕ → ℕ) (samples : List (List ℕ)) (n : ℕ) → length (chosen_samples dist samples n) ≡ n
+pub length-chosen_samples : (dist : Distance) (samples : List Object) (n : ℕ) → length (chosen_samples dist samples n) ≡ n
 length-chosen_samples dist samples n = length-map (chosen_places dist samples n) (sample_at samples) ∙ chosen-length dist samples n
 
-pub All-chosen_samples : (P : List ℕ → Type 0) (dist : List ℕ → List ℕ → ℕ) (samples : List (List ℕ)) (n : ℕ) → n ≤ length samples → All P samples → All P (chosen_samples dist samples n)
+pub All-chosen_samples : (P : List ℕ → Type 0) (dist : Distance) (samples : List Object) (n : ℕ) → n ≤ length samples → All P samples → All P (chosen_samples dist samples n)
 All-chosen_samples P dist samples n enough all =
     let places = chosen_places dist samples n in
     let within : All (λ (place : ℕ). place < length samples) places = chosen-within dist samples n enough in

@@ -1,7 +1,9 @@
 -- What is kept of an object: its distances to the pivots, and the cells that they lie in. What these tell of a distance
 -- that wasn't computed: a lower and an upper bound.
-use Rattle.std.specs.Prelude.{ℕ, ◌+◌, ◌-◌, Bool, ◌&&◌, nat_le, List, [], ◌∷◌, map, if◌then◌else◌}
+use Rattle.std.specs.Prelude.{ℕ, ◌+◌, ◌-◌, Bool, ◌&&◌, nat_le, List, map}
 use Rattle.std.specs.List.{zip, list_all, list_any}
+use Rattle.metric_laws.specs.Objects.{Object, Distance}
+use Rattle.metrics_builtin.specs.Vectors.{greatest}
 
 -- ---- distances and their cells
 
@@ -17,17 +19,12 @@ abbrev pub high_of : ℕ → ℕ
 high_of cell = cell
 
 -- the vector of an object: its distances to the pivots, in their order
-abbrev pub vector_of : (List ℕ → List ℕ → ℕ) → List (List ℕ) → List ℕ → List ℕ
+abbrev pub vector_of : Distance → List Object → Object → List ℕ
 vector_of dist pivots object = map (λ pivot. dist object pivot) pivots
 
 -- the cells of an object: those of its distances to the pivots
-abbrev pub cells_of : (List ℕ → List ℕ → ℕ) → List (List ℕ) → List ℕ → List ℕ
+abbrev pub cells_of : Distance → List Object → Object → List ℕ
 cells_of dist pivots object = map (λ pivot. cell_of (dist object pivot)) pivots
-
--- the greatest of the numbers, and 0 where there is none
-abbrev pub greatest : List ℕ → ℕ
-greatest [] = 0
-greatest (n ∷ ns) = let rest = greatest ns in if nat_le n rest then rest else n
 
 -- ---- a query, by its vector, and an object, by its cells
 

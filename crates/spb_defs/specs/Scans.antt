@@ -2,6 +2,7 @@
 -- costs with the pivots given.
 use Rattle.std.specs.Prelude.{ℕ, ◌+◌, ◌-◌, ◌&&◌, ◌++◌, Bool, true, not, nat_lt, nat_le, List, length, take, map, filter, count_by, Option, Some, None, if◌then◌else◌}
 use Rattle.std.specs.List.{flat_map, slice_get}
+use Rattle.metric_laws.specs.Objects.{Object, Distance}
 use Rattle.answer_lists.specs.Order.{goes_before, sorted_by}
 use Rattle.spb_defs.specs.declared.RangeAnswer.{RangeAnswer}
 use Rattle.spb_defs.specs.declared.NearAnswer.{NearAnswer}
@@ -10,38 +11,42 @@ use Rattle.spb_defs.specs.Pivots.{vector_of, cells_of, meets, is_sure, lower_bou
 
 -- an object of a collection with its id
 abbrev pub Entry : Type 0
-Entry = ℕ × List ℕ
+Entry = ℕ × Object
+
+-- a distance and an id
+abbrev pub Rank : Type 0
+Rank = ℕ × ℕ
 
 -- ---- ranges
 
 -- the ids of the rows whose object is within the radius of the query, rising
-abbrev pub scan_range : (List ℕ → List ℕ → ℕ) → List Entry → List ℕ → ℕ → List ℕ
+abbrev pub scan_range : Distance → List Entry → Object → ℕ → List ℕ
 scan_range dist rows query radius = sorted_by nat_lt (map (λ row. row.0) (filter (λ row. nat_le (dist query row.1) radius) rows))
 
 -- the pivots don't tell whether the row is within the radius of the query
-abbrev pub needs_distance : (List ℕ → List ℕ → ℕ) → List (List ℕ) → List ℕ → ℕ → Entry → Bool
+abbrev pub needs_distance : Distance → List Object → Object → ℕ → Entry → Bool
 needs_distance dist pivots query radius row =
     let asked = vector_of dist pivots query in
     let cells = cells_of dist pivots row.1 in
     meets asked radius cells && not (is_sure asked radius cells)
 
 -- the pivots alone tell that the row is within the radius of the query
-abbrev pub is_included : (List ℕ → List ℕ → ℕ) → List (List ℕ) → List ℕ → ℕ → Entry → Bool
+abbrev pub is_included : Distance → List Object → Object → ℕ → Entry → Bool
 is_included dist pivots query radius row =
     let asked = vector_of dist pivots query in
     let cells = cells_of dist pivots row.1 in
     meets asked radius cells && is_sure asked radius cells
 
 -- how many distances are computed: one for each pivot, and one for each row of which the pivots don't tell
-abbrev pub range_evals : (List ℕ → List ℕ → ℕ) → List (List ℕ) → List Entry → List ℕ → ℕ → ℕ
+abbrev pub range_evals : Distance → List Object → List Entry → Object → ℕ → ℕ
 range_evals dist pivots rows query radius = length pivots + count_by (needs_distance dist pivots query radius) rows
 
 -- how many rows are within the radius by the pivots alone
-abbrev pub range_sure : (List ℕ → List ℕ → ℕ) → List (List ℕ) → List Entry → List ℕ → ℕ → ℕ
+abbrev pub range_sure : Distance → List Object → List Entry → Object → ℕ → ℕ
 range_sure dist pivots rows query radius = count_by (is_included dist pivots query radius) rows
 
 -- the answer to a range query
-unfoldable pub range_answer : (List ℕ → List ℕ → ℕ) → List (List ℕ) → List Entry → List ℕ → ℕ → RangeAnswer
+unfoldable pub range_answer : Distance → List Object → List Entry → Object → ℕ → RangeAnswer
 range_answer dist pivots rows query radius = record {
   ids = scan_range dist rows query radius;
   evals = range_evals dist pivots rows query radius;
@@ -49,46 +54,46 @@ range_answer dist pivots rows query radius = record {
 }
 
 -- the objects that the query is measured with, in the rows' order: first the pivots
-unfoldable pub range_visits : (List ℕ → List ℕ → ℕ) → List (List ℕ) → List Entry → List ℕ → ℕ → List (List ℕ)
+unfoldable pub range_visits : Distance → List Object → List Entry → Object → ℕ → List Object
 range_visits dist pivots rows query radius = pivots ++ map (λ row. row.1) (filter (needs_distance dist pivots query radius) rows)
 
 -- ---- the nearest
 
 -- the distance of each row's object from the query, with its id
-abbrev pub ranks_of : (List ℕ → List ℕ → ℕ) → List Entry → List ℕ → List (ℕ × ℕ)
+abbrev pub ranks_of : Distance → List Entry → Object → List Rank
 ranks_of dist rows query = map (λ row. (dist query row.1, row.0)) rows
 
 -- the first k of all rows, by distance and then by id
-abbrev pub scan_near : (List ℕ → List ℕ → ℕ) → List Entry → List ℕ → ℕ → List (ℕ × ℕ)
+abbrev pub scan_near : Distance → List Entry → Object → ℕ → List Rank
 scan_near dist rows query k = take k (sorted_by goes_before (ranks_of dist rows query))
 
 -- the k-th of all rows, if there are so many
-abbrev pub kth_rank : (List ℕ → List ℕ → ℕ) → List Entry → List ℕ → ℕ → Option (ℕ × ℕ)
+abbrev pub kth_rank : Distance → List Entry → Object → ℕ → Option Rank
 kth_rank dist rows query k = slice_get (sorted_by goes_before (ranks_of dist rows query)) (k - 1)
 
 -- the least rank that the pivots leave a row: the lower bound of its distance, with its id
-abbrev pub rank_bound : (List ℕ → List ℕ → ℕ) → List (List ℕ) → List ℕ → Entry → ℕ × ℕ
+abbrev pub rank_bound : Distance → List Object → Object → Entry → Rank
 rank_bound dist pivots query row = (lower_bound (vector_of dist pivots query) (cells_of dist pivots row.1), row.0)
 
 -- the pivots don't put the row behind the last rank; where there is none, none is behind it
-abbrev pub is_in_reach : (List ℕ → List ℕ → ℕ) → List (List ℕ) → List ℕ → Option (ℕ × ℕ) → Entry → Bool
+abbrev pub is_in_reach : Distance → List Object → Object → Option Rank → Entry → Bool
 is_in_reach dist pivots query None row = true
 is_in_reach dist pivots query (Some last) row = not (goes_before last (rank_bound dist pivots query row))
 
 -- how many distances are computed: one for each pivot, and one for each row whose bound and id the pivots
 -- don't put behind the k-th rank
-abbrev pub near_evals : (List ℕ → List ℕ → ℕ) → List (List ℕ) → List Entry → List ℕ → ℕ → ℕ
+abbrev pub near_evals : Distance → List Object → List Entry → Object → ℕ → ℕ
 near_evals dist pivots rows query k = length pivots + count_by (is_in_reach dist pivots query (kth_rank dist rows query k)) rows
 
 -- the answer to a query for the k nearest
-unfoldable pub near_answer : (List ℕ → List ℕ → ℕ) → List (List ℕ) → List Entry → List ℕ → ℕ → NearAnswer
+unfoldable pub near_answer : Distance → List Object → List Entry → Object → ℕ → NearAnswer
 near_answer dist pivots rows query k = record {
   rows = scan_near dist rows query k;
   evals = near_evals dist pivots rows query k;
 }
 
 -- the objects that the query is measured with: first the pivots, then the rows by their bound and id
-unfoldable pub near_visits : (List ℕ → List ℕ → ℕ) → List (List ℕ) → List Entry → List ℕ → ℕ → List (List ℕ)
+unfoldable pub near_visits : Distance → List Object → List Entry → Object → ℕ → List Object
 near_visits dist pivots rows query k =
     pivots
     ++ map (λ row. row.1)
@@ -106,33 +111,33 @@ abbrev pub considered_pairs : Bool → List Entry → List Entry → List (Entry
 considered_pairs same left right = if same then filter (λ p. nat_lt p.0.0 p.1.0) (product left right) else product left right
 
 -- the ids of the pairs whose objects are within the radius of each other, in order
-abbrev pub scan_join : (List ℕ → List ℕ → ℕ) → List (Entry × Entry) → ℕ → List (ℕ × ℕ)
+abbrev pub scan_join : Distance → List (Entry × Entry) → ℕ → List (ℕ × ℕ)
 scan_join dist pairs radius = sorted_by goes_before (map (λ p. (p.0.0, p.1.0)) (filter (λ p. nat_le (dist p.0.1 p.1.1) radius) pairs))
 
 -- the pivots don't tell whether the objects of the pair are within the radius of each other
-abbrev pub pair_needs_distance : (List ℕ → List ℕ → ℕ) → List (List ℕ) → ℕ → Entry × Entry → Bool
+abbrev pub pair_needs_distance : Distance → List Object → ℕ → Entry × Entry → Bool
 pair_needs_distance dist pivots radius p =
     let a = cells_of dist pivots p.0.1 in
     let b = cells_of dist pivots p.1.1 in
     pair_meets a radius b && not (pair_is_sure a radius b)
 
 -- the pivots alone tell that the objects of the pair are within the radius of each other
-abbrev pub pair_is_included : (List ℕ → List ℕ → ℕ) → List (List ℕ) → ℕ → Entry × Entry → Bool
+abbrev pub pair_is_included : Distance → List Object → ℕ → Entry × Entry → Bool
 pair_is_included dist pivots radius p =
     let a = cells_of dist pivots p.0.1 in
     let b = cells_of dist pivots p.1.1 in
     pair_meets a radius b && pair_is_sure a radius b
 
 -- how many distances are computed: one for each pair of which the pivots don't tell
-abbrev pub join_evals : (List ℕ → List ℕ → ℕ) → List (List ℕ) → List (Entry × Entry) → ℕ → ℕ
+abbrev pub join_evals : Distance → List Object → List (Entry × Entry) → ℕ → ℕ
 join_evals dist pivots pairs radius = count_by (pair_needs_distance dist pivots radius) pairs
 
 -- how many pairs are within the radius by the pivots alone
-abbrev pub join_sure : (List ℕ → List ℕ → ℕ) → List (List ℕ) → List (Entry × Entry) → ℕ → ℕ
+abbrev pub join_sure : Distance → List Object → List (Entry × Entry) → ℕ → ℕ
 join_sure dist pivots pairs radius = count_by (pair_is_included dist pivots radius) pairs
 
 -- the answer to a join of these pairs
-unfoldable pub join_answer : (List ℕ → List ℕ → ℕ) → List (List ℕ) → List (Entry × Entry) → ℕ → JoinAnswer
+unfoldable pub join_answer : Distance → List Object → List (Entry × Entry) → ℕ → JoinAnswer
 join_answer dist pivots pairs radius = record {
   pairs = scan_join dist pairs radius;
   evals = join_evals dist pivots pairs radius;
@@ -140,5 +145,5 @@ join_answer dist pivots pairs radius = record {
 }
 
 -- the pairs of objects that are measured
-unfoldable pub join_visits : (List ℕ → List ℕ → ℕ) → List (List ℕ) → List (Entry × Entry) → ℕ → List (List ℕ × List ℕ)
+unfoldable pub join_visits : Distance → List Object → List (Entry × Entry) → ℕ → List (List ℕ × List ℕ)
 join_visits dist pivots pairs radius = map (λ p. (p.0.1, p.1.1)) (filter (pair_needs_distance dist pivots radius) pairs)

@@ -6,6 +6,7 @@ use Rattle.std.specs.Map.{lookup, remove_entry, keys_of}
 use Rattle.std.specs.BTreeMap.{is_at, insert_entry}
 use Rattle.std.specs.Ordering.{nat_cmp, ordering_then}
 use Rattle.std.specs.declared.cmp.Ordering.{Ordering}
+use Rattle.metric_laws.specs.Objects.{Object}
 use Rattle.metrics_builtin.specs.declared.Space.{Space}
 use Rattle.metrics_builtin.specs.Space.{fits, IsValid, dist}
 use Rattle.spb_defs.specs.declared.TheConstants.{MEMORY_CAP, SAMPLE_LIMIT, PIVOT_LIMIT}
@@ -31,10 +32,10 @@ Members = List (Key × List ℕ)
 pub record State : Type 0 where
   pub space : Space
   pub wanted : ℕ
-  pub pivots : List (List ℕ)
+  pub pivots : List Object
   pub curve : Option CurveKind
   pub cap : ℕ
-  pub samples : Option (List (List ℕ))
+  pub samples : Option (List Object)
   pub members : Members
 
 -- the store in memory before the first line, where so many pivots are wanted
@@ -43,7 +44,7 @@ empty_in_memory space wanted =
     record { space = space; wanted = wanted; pivots = []; curve = None; cap = MEMORY_CAP; samples = Some []; members = [] }
 
 -- the store in a file before the first line: its pivots were chosen when it was made
-abbrev pub empty_in_file : Space → CurveKind → List (List ℕ) → ℕ → State
+abbrev pub empty_in_file : Space → CurveKind → List Object → ℕ → State
 empty_in_file space curve pivots cap =
     record { space = space; wanted = length pivots; pivots = pivots; curve = Some curve; cap = cap; samples = None; members = [] }
 
@@ -54,7 +55,7 @@ allows_joins (Some Z) = true
 allows_joins (Some Hilbert) = false
 
 -- the pivots once the samples are closed: those chosen from the samples, as many as are wanted or as there are
-abbrev pub pivots_after_sampling : State → Option (List (List ℕ)) → List (List ℕ)
+abbrev pub pivots_after_sampling : State → Option (List Object) → List Object
 pivots_after_sampling s None = s.pivots
 pivots_after_sampling s (Some kept) = chosen_samples (dist s.space) kept (min s.wanted (length kept))
 
@@ -83,7 +84,7 @@ abbrev pub member_count : Members → ℕ → ℕ
 member_count members c = count_by (λ member. member.0.0 == c) members
 
 -- the samples, while they are kept: objects of the space, and no more than there may be
-abbrev pub AreSamples : Space → Option (List (List ℕ)) → Type 0
+abbrev pub AreSamples : Space → Option (List Object) → Type 0
 AreSamples space samples = IfSome samples (λ kept. All (IsValid space) kept × (length kept ≤ SAMPLE_LIMIT))
 
 -- a key is of one of the four collections, and its id is in 32 bits

@@ -14,13 +14,13 @@ IsSize (Err e) size = Unit {0}
 abbrev pub overwritten_at : List ℕ → ℕ → List ℕ → List ℕ
 overwritten_at image at bytes = take at image ++ bytes ++ drop (at + length bytes) image
 
--- a write lays its bytes over the image, and a refused one changes nothing outside of its range
-abbrev pub Overwrites : Result Unit DiskError → ℕ → List ℕ → List ℕ → List ℕ → Type 0
+-- a write overwrites the image with its bytes, and a refused one changes nothing outside of its range
+abbrev pub Overwrites : {E : Type 0} → Result Unit E → ℕ → List ℕ → List ℕ → List ℕ → Type 0
 Overwrites (Ok _) at bytes old new = new ≡ overwritten_at old at bytes
 Overwrites (Err e) at bytes old new = EqualOutside at (at + length bytes) old new
 
 -- a write past the end makes the image longer, and a refused one may have done so in part
-abbrev pub Extends : Result Unit DiskError → ℕ → ℕ → ℕ → Type 0
+abbrev pub Extends : {E : Type 0} → Result Unit E → ℕ → ℕ → ℕ → Type 0
 Extends (Ok _) old end new = new ≡ max old end
 Extends (Err e) old end new = (old ≤ new) × (new ≤ max old end)
 

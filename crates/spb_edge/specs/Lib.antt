@@ -1,3 +1,5 @@
+pub mod Calls
+pub mod Counts
 pub mod Known
 pub mod Fault
 pub mod Source

@@ -265,7 +265,7 @@ loop-first-preserved g c =
     record {
       kept = c.measure.ensures.kept ∙ kept.kept;
       most = c.put.ensures.most ∙ kept.most;
-      same_kind = c.measure.ensures.kind ∙ kept.same_kind;
+      same_kind = c.measure.ensures.ruler.0 ∙ kept.same_kind;
       count = omega (arith, count, result.ensures.count);
       visitable = visitable.1;
       light = omega (arith, weight, light);

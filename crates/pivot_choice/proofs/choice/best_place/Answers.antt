@@ -1,6 +1,6 @@
 use Rattle.std.proofs.Common.{◌≡◌, arith}
 use Rattle.std.proofs.lemmas.List.{take_all}
-use Rattle.spb_defs.specs.Pivots.{greatest}
+use Rattle.metrics_builtin.specs.Vectors.{greatest}
 use Rattle.spb_defs.specs.Choice.{first_place}
 use Rattle.spb_defs.specs.ChoiceLaws.{first_place-within}
 use Rattle.pivot_choice.proofs.Best.{step-rises, step-stays}

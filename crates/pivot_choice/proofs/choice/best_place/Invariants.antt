@@ -1,5 +1,5 @@
 use Rattle.std.proofs.Common.{◌≡◌, take}
-use Rattle.spb_defs.specs.Pivots.{greatest}
+use Rattle.metrics_builtin.specs.Vectors.{greatest}
 use Rattle.spb_defs.specs.Choice.{first_place}
 use Rattle.pivot_choice.proofs.choice.best_place.Given as goal
 

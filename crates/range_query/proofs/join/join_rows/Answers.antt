@@ -74,7 +74,7 @@ loop-i-preserved g c =
       seen ++ here,
       record {
         whole = more;
-        same_kind = c.pair_up.ensures.kind ∙ kept.same_kind;
+        same_kind = c.pair_up.ensures.ruler.0 ∙ kept.same_kind;
         found = PassesOver-then verdict pair_ids seen here c.new-found.result c.loop-i.found c.pair_up.new.found kept.found found;
         measured = MeasuresOpen-then verdict pair_objects seen here (ruler.count start) (ruler.log start) (ruler.count amid) (ruler.log amid) (ruler.count now) (ruler.log now) kept.measured measured;
       },

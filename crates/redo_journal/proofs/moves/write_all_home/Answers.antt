@@ -37,8 +37,8 @@ loop-place-preserved g c =
     c.count-place-end.ensures.sound.homes within (long tells) c.entry-n.ensures.page
     (c.in_ok-write_home.ensures.image (subst IsTrue (sym so_far.1) tells)) (so_far.3 tells) (so_far.4 tells) in (
       c.write_home.ensures.same_size ∙ so_far.0,
-      c.write_home.ensures.told.0 ∙ so_far.1,
-      c.write_home.ensures.told.1 ∙ so_far.2,
+      c.write_home.ensures.disk.0.0 ∙ so_far.1,
+      c.write_home.ensures.disk.0.1 ∙ so_far.2,
       (λ tells. (home tells).0),
       (λ tells. (home tells).1),
       (λ tells only. goes_on g.D.Disk.moment g.D.Disk.crash_states_since c.args.disk.now c.loop-place.disk c.write_home.new.disk _ _ (so_far.5 tells only) c.write_home.ensures.time

@@ -8,8 +8,8 @@ use Rattle.redo_journal.proofs.recovery.recover_staged.Goals as goal
 pub returns-in_err-settle_staged-clause-any_start : goal.returns-in_err-settle_staged-clause-any_start
 returns-in_err-settle_staged-clause-any_start g c = λ tells crashes marks home stands.
     let total = c.args.staged.now.total in
-    let tells_found : IsTrue (g.D.Disk.is_known c.find_kept_change.new.disk) = subst IsTrue (sym c.find_kept_change.ensures.told.0) tells in
-    let crashes_found : IsTrue (g.D.Disk.knows_crashes c.find_kept_change.new.disk) = subst IsTrue (sym c.find_kept_change.ensures.told.1) crashes in
+    let tells_found : IsTrue (g.D.Disk.is_known c.find_kept_change.new.disk) = subst IsTrue (sym c.find_kept_change.ensures.disk.0.0) tells in
+    let crashes_found : IsTrue (g.D.Disk.knows_crashes c.find_kept_change.new.disk) = subst IsTrue (sym c.find_kept_change.ensures.disk.0.1) crashes in
     let same : g.D.Disk.image c.find_kept_change.new.disk ≡ g.D.Disk.image c.args.disk.now = c.find_kept_change.ensures.image tells in
     let found : ReadsChange total (Ok true) (g.D.Disk.image c.args.disk.now) c.find_kept_change.new.staged.pages =
     subst (λ (b : Bool). ReadsChange total (Ok b) (g.D.Disk.image c.args.disk.now) c.find_kept_change.new.staged.pages) c.if-branch.true (c.in_ok-find_kept_change.ensures.finds tells) in
@@ -27,8 +27,8 @@ returns-in_err-settle_staged-clause-any_start g c = λ tells crashes marks home 
 pub returns-in_ok-settle_staged-clause-any_start : goal.returns-in_ok-settle_staged-clause-any_start
 returns-in_ok-settle_staged-clause-any_start g c = λ tells crashes marks home stands.
     let total = c.args.staged.now.total in
-    let tells_found : IsTrue (g.D.Disk.is_known c.find_kept_change.new.disk) = subst IsTrue (sym c.find_kept_change.ensures.told.0) tells in
-    let crashes_found : IsTrue (g.D.Disk.knows_crashes c.find_kept_change.new.disk) = subst IsTrue (sym c.find_kept_change.ensures.told.1) crashes in
+    let tells_found : IsTrue (g.D.Disk.is_known c.find_kept_change.new.disk) = subst IsTrue (sym c.find_kept_change.ensures.disk.0.0) tells in
+    let crashes_found : IsTrue (g.D.Disk.knows_crashes c.find_kept_change.new.disk) = subst IsTrue (sym c.find_kept_change.ensures.disk.0.1) crashes in
     let same : g.D.Disk.image c.find_kept_change.new.disk ≡ g.D.Disk.image c.args.disk.now = c.find_kept_change.ensures.image tells in
     let found : ReadsChange total (Ok true) (g.D.Disk.image c.args.disk.now) c.find_kept_change.new.staged.pages =
     subst (λ (b : Bool). ReadsChange total (Ok b) (g.D.Disk.image c.args.disk.now) c.find_kept_change.new.staged.pages) c.if-branch.true (c.in_ok-find_kept_change.ensures.finds tells) in
