@@ -1,3 +1,4 @@
+pub mod Calls
 pub mod Pages
 pub mod Header
 pub mod Redo

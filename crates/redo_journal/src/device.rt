@@ -1,11 +1,12 @@
 //! Single steps over a disk, whose contracts say what they leave if the machine stops.
 //!
 //! All but [`grow_piece`] stay within the disk's size, and so take no memory.
-ghost use Rattle.spb_edge.specs.Calls.{StaysKnown, DiskContinues};
+ghost use Rattle.spb_edge.specs.Calls.{StaysKnown};
 ghost use Rattle.std.specs.Prelude.{◌≡◌, ◌≤◌, ◌+◌, IsTrue, OnOk, length, take, drop};
 ghost use Rattle.spb_edge.specs.Fault.{CountsError, next_count};
 ghost use Rattle.spb_edge.specs.Disk.{overwritten_at, Overwrites, Extends};
 ghost use Rattle.spb_edge.specs.Crash.{IsTornWrite, FollowsBy, Includes, IsDurable, Elapses, CrashesLeaveOnly};
+ghost use Rattle.redo_journal.specs.Calls.{DiskServes};
 ghost use Rattle.redo_journal.specs.Growth.{CountsGrowFault};
 
 use crate::{DiskFault, GrowError};
@@ -16,11 +17,10 @@ use spb_edge::{Disk, DiskError};
 pub fn write_piece<D: Disk>(disk: &mut D, at: u64, bytes: &[u8]) -> Result<(), DiskFault>
     requires { at + length bytes.now ≤ D.size_of disk.old }
     ensures image { IsTrue (D.is_known disk.old) → OnOk result (D.image disk.new ≡ overwritten_at (D.image disk.old) at bytes.now) }
-    ensures disk { DiskContinues D.is_known D.knows_crashes D.size_of disk.old disk.new }
+    ensures disk { DiskServes D.is_known D.knows_crashes D.size_of D.faults result disk.old disk.new }
     ensures crash { FollowsBy (IsTornWrite at (length bytes.now)) (D.crash_states disk.old) (D.crash_states disk.new) }
     ensures time { Elapses (D.moment disk.old) (D.moment disk.new) (D.crash_states_since disk.old) (D.crash_states_since disk.new) (D.crash_states disk.new) }
     ensures reads { IsTrue (D.is_known disk.old) → D.reads disk.new ≡ D.reads disk.old }
-    ensures fault { CountsError result (D.faults disk.old) (D.faults disk.new) }
 {
     match disk.write_at(at, bytes) {
         Ok(()) => Ok(()),
@@ -37,9 +37,8 @@ pub fn read_piece<D: Disk>(disk: &mut D, at: u64, into: &mut [u8]) -> Result<(),
     ensures filled { length into.new ≡ length into.old }
     ensures quiet { D.quiet disk.old disk.new }
     ensures image { IsTrue (D.is_known disk.old) → D.image disk.new ≡ D.image disk.old }
-    ensures disk { DiskContinues D.is_known D.knows_crashes D.size_of disk.old disk.new }
+    ensures disk { DiskServes D.is_known D.knows_crashes D.size_of D.faults result disk.old disk.new }
     ensures reads { IsTrue (D.is_known disk.old) → D.reads disk.new ≡ next_count (D.reads disk.old) }
-    ensures fault { CountsError result (D.faults disk.old) (D.faults disk.new) }
 {
     match disk.read(at, into) {
         Ok(()) => Ok(()),
@@ -53,11 +52,10 @@ pub fn read_piece<D: Disk>(disk: &mut D, at: u64, into: &mut [u8]) -> Result<(),
 pub fn sync_all<D: Disk>(disk: &mut D) -> Result<(), DiskFault>
     ensures kept { IsTrue (D.is_known disk.old) → IsTrue (D.knows_crashes disk.old) → OnOk result (IsDurable (D.image disk.new) (D.crash_states disk.new)) }
     ensures image { IsTrue (D.is_known disk.old) → D.image disk.new ≡ D.image disk.old }
-    ensures disk { DiskContinues D.is_known D.knows_crashes D.size_of disk.old disk.new }
+    ensures disk { DiskServes D.is_known D.knows_crashes D.size_of D.faults result disk.old disk.new }
     ensures crash { Includes (D.crash_states disk.old) (D.crash_states disk.new) }
     ensures time { Elapses (D.moment disk.old) (D.moment disk.new) (D.crash_states_since disk.old) (D.crash_states_since disk.new) (D.crash_states disk.new) }
     ensures reads { IsTrue (D.is_known disk.old) → D.reads disk.new ≡ D.reads disk.old }
-    ensures fault { CountsError result (D.faults disk.old) (D.faults disk.new) }
 {
     match disk.sync() {
         Ok(()) => Ok(()),
@@ -77,9 +75,8 @@ pub fn write_and_keep<D: Disk>(disk: &mut D, at: u64, bytes: &[u8]) -> Result<()
     ensures kept { IsTrue (D.is_known disk.old) → IsTrue (D.knows_crashes disk.old) → OnOk result (IsDurable (D.image disk.new) (D.crash_states disk.new)) }
     ensures any_moment { IsDurable (D.image disk.old) (D.crash_states disk.old)
         → CrashesLeaveOnly D.moment D.crash_states_since disk.old disk.new (IsTornWrite at (length bytes.now) (D.image disk.old)) }
-    ensures disk { DiskContinues D.is_known D.knows_crashes D.size_of disk.old disk.new }
+    ensures disk { DiskServes D.is_known D.knows_crashes D.size_of D.faults result disk.old disk.new }
     ensures reads { IsTrue (D.is_known disk.old) → D.reads disk.new ≡ D.reads disk.old }
-    ensures fault { CountsError result (D.faults disk.old) (D.faults disk.new) }
 {
     write_piece(disk, at, bytes)?;
     sync_all(disk)

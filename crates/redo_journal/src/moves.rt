@@ -1,10 +1,10 @@
 //! The journal's moves over a disk: a change into the journal, and from there home.
-ghost use Rattle.spb_edge.specs.Calls.{DiskContinues};
 ghost use Rattle.std.specs.Prelude.{◌≡◌, ◌+◌, ◌*◌, ◌<◌, ◌≤◌, [], List, ℕ, false, IsTrue, OnOk, length};
 ghost use Rattle.std.specs.Map.{keys_of};
 ghost use Rattle.spb_edge.specs.Fault.{CountsError};
 ghost use Rattle.spb_edge.specs.Disk.{overwritten_at};
 ghost use Rattle.spb_edge.specs.Crash.{IsDurable, Elapses, CrashesLeaveOnly};
+ghost use Rattle.redo_journal.specs.Calls.{DiskServes};
 ghost use Rattle.redo_journal.specs.declared.layout.TheConstants.{PAGE_SIZE, LEAST_PAGES, CLOSED_GATE};
 ghost use Rattle.redo_journal.specs.Pages.{page, gate};
 ghost use Rattle.redo_journal.specs.Header.{AreHomes};
@@ -28,9 +28,8 @@ pub(crate) fn commit_staged<D: Disk>(disk: &mut D, staged: &mut Staged) -> Resul
         → CrashesLeaveOnly D.moment D.crash_states_since disk.old disk.new (IsBeforeOrAfter staged.old.total staged.old.pages marks home) }
     ensures kept { IsTrue (D.is_known disk.old) → IsTrue (D.knows_crashes disk.old) → OnOk result (IsDurable (D.image disk.new) (D.crash_states disk.new)) }
     ensures pages { (staged.new.pages ≡ staged.old.pages) × (staged.new.total ≡ staged.old.total) }
-    ensures disk { DiskContinues D.is_known D.knows_crashes D.size_of disk.old disk.new }
+    ensures disk { DiskServes D.is_known D.knows_crashes D.size_of D.faults result disk.old disk.new }
     ensures reads { IsTrue (D.is_known disk.old) → D.reads disk.new ≡ D.reads disk.old }
-    ensures fault { CountsError result (D.faults disk.old) (D.faults disk.new) }
 {
     staged.seal();
     write_and_keep(disk, PAGE_SIZE as u64 * HEADER_PAGE as u64, staged.body())?;
@@ -47,9 +46,8 @@ fn write_home<D: Disk>(disk: &mut D, n: u32, page: &[u8]) -> Result<(), DiskFaul
     ensures crash { (total : ℕ) (numbers start : List ℕ) → length start ≡ PAGE_SIZE * total → n < total → IsTrue (is_listed n numbers)
         → ((c : List ℕ) → D.crash_states disk.old c → DiffersWithin total numbers start c) → (c : List ℕ) → D.crash_states disk.new c → DiffersWithin total numbers start c }
     ensures time { Elapses (D.moment disk.old) (D.moment disk.new) (D.crash_states_since disk.old) (D.crash_states_since disk.new) (D.crash_states disk.new) }
-    ensures disk { DiskContinues D.is_known D.knows_crashes D.size_of disk.old disk.new }
+    ensures disk { DiskServes D.is_known D.knows_crashes D.size_of D.faults result disk.old disk.new }
     ensures reads { IsTrue (D.is_known disk.old) → D.reads disk.new ≡ D.reads disk.old }
-    ensures fault { CountsError result (D.faults disk.old) (D.faults disk.new) }
 {
     write_piece(disk, PAGE_SIZE as u64 * n as u64, page)
 }
@@ -65,9 +63,8 @@ fn write_all_home<D: Disk>(disk: &mut D, staged: &Staged) -> Result<(), DiskFaul
     ensures crash { IsTrue (D.is_known disk.old) → IsDurable (D.image disk.old) (D.crash_states disk.old)
         → (c : List ℕ) → D.crash_states disk.new c → DiffersWithin staged.now.total (keys_of staged.now.pages) (D.image disk.old) c }
     ensures homes { AreHomes staged.now.total 0 (keys_of staged.now.pages) }
-    ensures disk { DiskContinues D.is_known D.knows_crashes D.size_of disk.old disk.new }
+    ensures disk { DiskServes D.is_known D.knows_crashes D.size_of D.faults result disk.old disk.new }
     ensures reads { IsTrue (D.is_known disk.old) → D.reads disk.new ≡ D.reads disk.old }
-    ensures fault { CountsError result (D.faults disk.old) (D.faults disk.new) }
 {
     for place in 0..staged.count() {
         let (n, page) = staged.entry(place);
@@ -88,9 +85,8 @@ pub(crate) fn settle_staged<D: Disk>(disk: &mut D, staged: &mut Staged) -> Resul
     ensures kept { IsTrue (D.is_known disk.old) → IsTrue (D.knows_crashes disk.old) → OnOk result (IsDurable (D.image disk.new) (D.crash_states disk.new)) }
     ensures cleared { OnOk result (staged.new.pages ≡ []) }
     ensures total { staged.new.total ≡ staged.old.total }
-    ensures disk { DiskContinues D.is_known D.knows_crashes D.size_of disk.old disk.new }
+    ensures disk { DiskServes D.is_known D.knows_crashes D.size_of D.faults result disk.old disk.new }
     ensures reads { IsTrue (D.is_known disk.old) → D.reads disk.new ≡ D.reads disk.old }
-    ensures fault { CountsError result (D.faults disk.old) (D.faults disk.new) }
 {
     write_all_home(disk, staged)?;
     sync_all(disk)?;

@@ -3,6 +3,7 @@ ghost use Rattle.spb_edge.specs.Calls.{DiskContinues};
 ghost use Rattle.std.specs.Prelude.{◌≡◌, ◌⊎◌, ◌+◌, ◌*◌, ◌<◌, ◌≤◌, [], List, ℕ, false, IsTrue, OnOk, IfOk, length};
 ghost use Rattle.spb_edge.specs.Fault.{CountsError, next_count};
 ghost use Rattle.spb_edge.specs.Crash.{IsDurable, CrashesLeaveOnly};
+ghost use Rattle.redo_journal.specs.Calls.{DiskServes};
 ghost use Rattle.redo_journal.specs.declared.layout.TheConstants.{PAGE_SIZE, GATE_AT, LEAST_PAGES};
 ghost use Rattle.redo_journal.specs.Pages.{page};
 ghost use Rattle.redo_journal.specs.Redo.{has_open_gate, RecoversTo};
@@ -22,8 +23,7 @@ fn gate_is_open<D: Disk>(disk: &mut D) -> Result<bool, DiskFault>
     ensures gate { IsTrue (D.is_known disk.old) → IfOk result (λ opened. opened ≡ has_open_gate (D.image disk.old)) }
     ensures quiet { D.quiet disk.old disk.new }
     ensures image { IsTrue (D.is_known disk.old) → D.image disk.new ≡ D.image disk.old }
-    ensures disk { DiskContinues D.is_known D.knows_crashes D.size_of disk.old disk.new }
-    ensures fault { CountsError result (D.faults disk.old) (D.faults disk.new) }
+    ensures disk { DiskServes D.is_known D.knows_crashes D.size_of D.faults result disk.old disk.new }
 {
     let mut gate = [0];
     read_piece(disk, GATE_AT, &mut gate)?;
@@ -40,9 +40,8 @@ pub(crate) fn read_page<D: Disk>(
     ensures data { IsTrue (D.is_known disk.old) → OnOk result (into.new ≡ page (D.image disk.old) n) }
     ensures quiet { D.quiet disk.old disk.new }
     ensures image { IsTrue (D.is_known disk.old) → D.image disk.new ≡ D.image disk.old }
-    ensures disk { DiskContinues D.is_known D.knows_crashes D.size_of disk.old disk.new }
+    ensures disk { DiskServes D.is_known D.knows_crashes D.size_of D.faults result disk.old disk.new }
     ensures reads { IsTrue (D.is_known disk.old) → D.reads disk.new ≡ next_count (D.reads disk.old) }
-    ensures fault { CountsError result (D.faults disk.old) (D.faults disk.new) }
 {
     read_piece(disk, PAGE_SIZE as u64 * n as u64, into)
 }

@@ -1,7 +1,7 @@
 //! The pages of a change on its way to the disk.
-ghost use Rattle.spb_edge.specs.Calls.{DiskContinues};
 ghost use Rattle.std.specs.Prelude.{◌≡◌, ◌+◌, ◌*◌, ◌<◌, ◌≤◌, ◌==◌, [], ◌∷◌, ◌++◌, IsTrue, IfOk, IfSome, OnOk, MatchOption, MatchResult, None, Some, length, take, drop, slice_index, vec_len, vec_capacity};
 ghost use Rattle.std.specs.Map.{keys_of, lookup};
+ghost use Rattle.redo_journal.specs.Calls.{DiskServes};
 ghost use Rattle.redo_journal.specs.declared.layout.TheConstants.{PAGE_SIZE, CHANGE_LIMIT, FIRST_IMAGE, LEAST_PAGES};
 ghost use Rattle.redo_journal.specs.Pages.{IsHome};
 ghost use Rattle.spb_edge.specs.Fault.{CountsError};
@@ -115,8 +115,7 @@ impl Staged {
         ensures total { self.new.total ≡ self.old.total }
         ensures quiet { D.quiet disk.old disk.new }
         ensures image { IsTrue (D.is_known disk.old) → D.image disk.new ≡ D.image disk.old }
-        ensures disk { DiskContinues D.is_known D.knows_crashes D.size_of disk.old disk.new }
-        ensures fault { CountsError result (D.faults disk.old) (D.faults disk.new) }
+        ensures disk { DiskServes D.is_known D.knows_crashes D.size_of D.faults result disk.old disk.new }
     {
         self.numbers = numbers;
         read_images(disk, &mut self.body, self.numbers.len())
@@ -175,8 +174,7 @@ fn read_images<D: Disk>(disk: &mut D, body: &mut Vec<u8>, count: usize) -> Resul
     ensures capacity { vec_capacity body.old ≤ vec_capacity body.new }
     ensures quiet { D.quiet disk.old disk.new }
     ensures image { IsTrue (D.is_known disk.old) → D.image disk.new ≡ D.image disk.old }
-    ensures disk { DiskContinues D.is_known D.knows_crashes D.size_of disk.old disk.new }
-    ensures fault { CountsError result (D.faults disk.old) (D.faults disk.new) }
+    ensures disk { DiskServes D.is_known D.knows_crashes D.size_of D.faults result disk.old disk.new }
 {
     let Ok(()) = body.resize(PAGE_SIZE * (1 + count), 0) else {
         unreachable!()

@@ -51,4 +51,4 @@ returns-clause-commits g c = λ tells.
     let body : HasBody total pages start written =
     subst (λ (t : ℕ). HasBody t pages start written) c.seal.ensures.total (subst (λ l. HasBody sealed.total l start written) c.seal.ensures.same as_sealed) in
     on_ok_weaker c.write_and_keep-2.result (commits total pages start written (g.D.Disk.image c.write_and_keep-2.new.disk) c.requires.least size body)
-    (c.write_and_keep-2.ensures.image (subst IsTrue (sym c.write_and_keep.ensures.disk.0.0) tells))
+    (c.write_and_keep-2.ensures.image (subst IsTrue (sym c.write_and_keep.ensures.disk.0.0.0) tells))

@@ -21,8 +21,8 @@ returns-in_err-sync_all-clause-any_moment g c = λ tells crashes only holds mark
 
 pub returns-in_err-write_and_keep-clause-any_moment : goal.returns-in_err-write_and_keep-clause-any_moment
 returns-in_err-write_and_keep-clause-any_moment g c = λ tells crashes only holds marks home stands.
-    let tells_then : IsTrue (g.D.Disk.is_known c.write_all_home.new.disk) = subst IsTrue (sym c.write_all_home.ensures.disk.0.0) tells in
-    let crashes_then : IsTrue (g.D.Disk.knows_crashes c.write_all_home.new.disk) = subst IsTrue (sym c.write_all_home.ensures.disk.0.1) crashes in
+    let tells_then : IsTrue (g.D.Disk.is_known c.write_all_home.new.disk) = subst IsTrue (sym c.write_all_home.ensures.disk.0.0.0) tells in
+    let crashes_then : IsTrue (g.D.Disk.knows_crashes c.write_all_home.new.disk) = subst IsTrue (sym c.write_all_home.ensures.disk.0.0.1) crashes in
     let same = c.sync_all.ensures.image tells_then in
     settled g.D.Disk.moment g.D.Disk.crash_states_since g.D.Disk.image g.D.Disk.crash_states c.args.staged.now.total c.args.staged.now.pages marks home
     c.args.disk.now c.sync_all.new.disk c.write_and_keep.new.disk c.write_all_home.ensures.homes holds stands
@@ -35,8 +35,8 @@ returns-in_err-write_and_keep-clause-any_moment g c = λ tells crashes only hold
 
 pub returns-clause-any_moment : goal.returns-clause-any_moment
 returns-clause-any_moment g c = λ tells crashes only holds marks home stands.
-    let tells_then : IsTrue (g.D.Disk.is_known c.write_all_home.new.disk) = subst IsTrue (sym c.write_all_home.ensures.disk.0.0) tells in
-    let crashes_then : IsTrue (g.D.Disk.knows_crashes c.write_all_home.new.disk) = subst IsTrue (sym c.write_all_home.ensures.disk.0.1) crashes in
+    let tells_then : IsTrue (g.D.Disk.is_known c.write_all_home.new.disk) = subst IsTrue (sym c.write_all_home.ensures.disk.0.0.0) tells in
+    let crashes_then : IsTrue (g.D.Disk.knows_crashes c.write_all_home.new.disk) = subst IsTrue (sym c.write_all_home.ensures.disk.0.0.1) crashes in
     let same = c.sync_all.ensures.image tells_then in
     settled g.D.Disk.moment g.D.Disk.crash_states_since g.D.Disk.image g.D.Disk.crash_states c.args.staged.now.total c.args.staged.now.pages marks home
     c.args.disk.now c.sync_all.new.disk c.write_and_keep.new.disk c.write_all_home.ensures.homes holds stands
@@ -49,10 +49,10 @@ returns-clause-any_moment g c = λ tells crashes only holds marks home stands.
 
 pub returns-clause-settles : goal.returns-clause-settles
 returns-clause-settles g c = λ tells holds.
-    let tells_then : IsTrue (g.D.Disk.is_known c.write_all_home.new.disk) = subst IsTrue (sym c.write_all_home.ensures.disk.0.0) tells in
-    let tells_now : IsTrue (g.D.Disk.is_known c.sync_all.new.disk) = subst IsTrue (sym c.sync_all.ensures.disk.0.0) tells_then in
+    let tells_then : IsTrue (g.D.Disk.is_known c.write_all_home.new.disk) = subst IsTrue (sym c.write_all_home.ensures.disk.0.0.0) tells in
+    let tells_now : IsTrue (g.D.Disk.is_known c.sync_all.new.disk) = subst IsTrue (sym c.sync_all.ensures.disk.0.0.0) tells_then in
     let same = c.sync_all.ensures.image tells_then in
-    let long = sym (g.met.D.Disk.length_is c.sync_all.new.disk tells_now) ∙ c.sync_all.ensures.disk.1 ∙ c.write_all_home.ensures.same_size ∙ c.requires.size in
+    let long = sym (g.met.D.Disk.length_is c.sync_all.new.disk tells_now) ∙ c.sync_all.ensures.disk.0.1 ∙ c.write_all_home.ensures.disk.0.1 ∙ c.requires.size in
     let gate = gate_laid c.args.staged.now.total 0 (g.D.Disk.image c.sync_all.new.disk) (g.D.Disk.image c.write_and_keep.new.disk) c.requires.least long (c.in_ok-write_and_keep.ensures.image tells_now) in
     gate_redone c.args.staged.now.total c.args.staged.now.pages (g.D.Disk.image c.args.disk.now) (g.D.Disk.image c.sync_all.new.disk) c.requires.least c.write_all_home.ensures.homes holds
     (subst (DiffersWithin c.args.staged.now.total (keys_of c.args.staged.now.pages) (g.D.Disk.image c.args.disk.now)) (sym same) (c.in_ok-write_all_home.ensures.differs tells))
@@ -61,7 +61,7 @@ returns-clause-settles g c = λ tells holds.
 
 pub returns-clause-closed : goal.returns-clause-closed
 returns-clause-closed g c = λ tells.
-    let tells_then : IsTrue (g.D.Disk.is_known c.write_all_home.new.disk) = subst IsTrue (sym c.write_all_home.ensures.disk.0.0) tells in
-    let tells_now : IsTrue (g.D.Disk.is_known c.sync_all.new.disk) = subst IsTrue (sym c.sync_all.ensures.disk.0.0) tells_then in
-    let long = sym (g.met.D.Disk.length_is c.sync_all.new.disk tells_now) ∙ c.sync_all.ensures.disk.1 ∙ c.write_all_home.ensures.same_size ∙ c.requires.size in
+    let tells_then : IsTrue (g.D.Disk.is_known c.write_all_home.new.disk) = subst IsTrue (sym c.write_all_home.ensures.disk.0.0.0) tells in
+    let tells_now : IsTrue (g.D.Disk.is_known c.sync_all.new.disk) = subst IsTrue (sym c.sync_all.ensures.disk.0.0.0) tells_then in
+    let long = sym (g.met.D.Disk.length_is c.sync_all.new.disk tells_now) ∙ c.sync_all.ensures.disk.0.1 ∙ c.write_all_home.ensures.disk.0.1 ∙ c.requires.size in
     (gate_laid c.args.staged.now.total 0 (g.D.Disk.image c.sync_all.new.disk) (g.D.Disk.image c.write_and_keep.new.disk) c.requires.least long (c.in_ok-write_and_keep.ensures.image tells_now)).1

@@ -36,14 +36,14 @@ loop-place-preserved g c =
     λ tells. goes_home c.args.staged.now.total _ c.loop-place.place _ _ (g.D.Disk.image c.loop-place.disk) _ c.args.staged.now.pages c.entry-n.ensures.entry more
     c.count-place-end.ensures.sound.homes within (long tells) c.entry-n.ensures.page
     (c.in_ok-write_home.ensures.image (subst IsTrue (sym so_far.1) tells)) (so_far.3 tells) (so_far.4 tells) in (
-      c.write_home.ensures.same_size ∙ so_far.0,
-      c.write_home.ensures.disk.0.0 ∙ so_far.1,
-      c.write_home.ensures.disk.0.1 ∙ so_far.2,
+      c.write_home.ensures.disk.0.1 ∙ so_far.0,
+      c.write_home.ensures.disk.0.0.0 ∙ so_far.1,
+      c.write_home.ensures.disk.0.0.1 ∙ so_far.2,
       (λ tells. (home tells).0),
       (λ tells. (home tells).1),
       (λ tells only. goes_on g.D.Disk.moment g.D.Disk.crash_states_since c.args.disk.now c.loop-place.disk c.write_home.new.disk _ _ (so_far.5 tells only) c.write_home.ensures.time
           (c.write_home.ensures.crash _ _ _ (long tells) within (among _ _ _ _ _ c.entry-n.ensures.entry) (so_far.6 tells only))),
       (λ tells only. c.write_home.ensures.crash _ _ _ (long tells) within (among _ _ _ _ _ c.entry-n.ensures.entry) (so_far.6 tells only)),
       (λ tells. c.write_home.ensures.reads (subst IsTrue (sym so_far.1) tells) ∙ so_far.7 tells),
-      omega (arith, so_far.8, c.in_ok-write_home.ensures.fault),
+      omega (arith, so_far.8, c.in_ok-write_home.ensures.disk.1),
     )

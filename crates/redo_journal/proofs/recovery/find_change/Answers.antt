@@ -8,8 +8,8 @@ use Rattle.redo_journal.proofs.recovery.find_change.Goals as goal
 pub returns-in_ok-load-in-Ok-clause-finds : goal.returns-in_ok-load-in-Ok-clause-finds
 returns-in_ok-load-in-Ok-clause-finds g c = λ tells.
     let image = g.D.Disk.image c.args.disk.now in
-    let tells_gate : IsTrue (g.D.Disk.is_known c.gate_is_open.new.disk) = subst IsTrue (sym c.gate_is_open.ensures.disk.0.0) tells in
-    let tells_page : IsTrue (g.D.Disk.is_known c.read_page.new.disk) = subst IsTrue (sym c.read_page.ensures.disk.0.0) tells_gate in
+    let tells_gate : IsTrue (g.D.Disk.is_known c.gate_is_open.new.disk) = subst IsTrue (sym c.gate_is_open.ensures.disk.0.0.0) tells in
+    let tells_page : IsTrue (g.D.Disk.is_known c.read_page.new.disk) = subst IsTrue (sym c.read_page.ensures.disk.0.0.0) tells_gate in
     let header : c.read_page.new.into ≡ page image 4 = c.in_ok-read_page.ensures.data tells_gate ∙ ap (λ i. page i 4) (c.gate_is_open.ensures.image tells) in
     let same : g.D.Disk.image c.read_page.new.disk ≡ image = c.read_page.ensures.image tells_gate ∙ c.gate_is_open.ensures.image tells in (
       search rules,
