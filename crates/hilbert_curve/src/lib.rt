@@ -27,7 +27,7 @@ pub use walk::walk_state;
 ///
 /// A cube of two bits shows where the curve enters and leaves each of its eight parts, which its
 /// laws leave open.
-#[tactic(auto, unfolding(crate::specs::Curve::hilbert_cell, crate::specs::Curve::hilbert_key, crate::specs::Curve::IsStep, crate::specs::Curve::turned, crate::specs::Curve::cell_bits, crate::specs::Curve::next_entry, crate::specs::Curve::next_direction, crate::specs::Curve::group_of))]
+#[tactic(auto, unfolding(crate::specs::Curve::hilbert_cell, crate::specs::Curve::hilbert_key, crate::specs::Curve::IsStep, crate::specs::Curve::rotated, crate::specs::Curve::cell_bits, crate::specs::Curve::next_entry, crate::specs::Curve::next_direction, crate::specs::Curve::group_of))]
 pub fn worked_rows()
     ensures plane { map (hilbert_cell 2 2) (range_with_len 0 16)
         ≡ (0 ∷ 0 ∷ []) ∷ (1 ∷ 0 ∷ []) ∷ (1 ∷ 1 ∷ []) ∷ (0 ∷ 1 ∷ []) ∷ (0 ∷ 2 ∷ []) ∷ (0 ∷ 3 ∷ []) ∷ (1 ∷ 3 ∷ []) ∷ (1 ∷ 2 ∷ [])

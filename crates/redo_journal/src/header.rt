@@ -20,7 +20,7 @@ pub(crate) fn is_home(total: u32, n: u32) -> bool
 }
 
 /// The number in the first four bytes.
-#[tactic(auto, unfolding(crate::specs::Header::number_of))]
+#[tactic(auto, unfolding(crate::specs::Header::leading_number))]
 fn number_in(bytes: &[u8]) -> u32
     requires { 4 ≤ length bytes.now }
     ensures { result ≡ leading_number bytes.now }
