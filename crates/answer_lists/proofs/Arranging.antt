@@ -24,12 +24,12 @@ nat_lt-is a b = is_lt-number (nat_lt a b) (a == b)
 
 pub ids-from_sort : (xs ys : List ℕ) → IsPermutation xs ys → IsSorted nat_cmp ys → ys ≡ sorted_by nat_lt xs
 ids-from_sort xs ys moved sorted =
-    laws.arranged-from_sort nat_lt laws.nat_order xs ys moved (λ k d low inside. sym (nat_lt-is (get_or ys (k + 1) d) (get_or ys k d)) ∙ sorted k d low inside)
+    laws.sorted_by-from_sort nat_lt laws.nat_order xs ys moved (λ k d low inside. sym (nat_lt-is (get_or ys (k + 1) d) (get_or ys k d)) ∙ sorted k d low inside)
 
 -- ---- ranks
 
 pub sorted_by-from_sort : (xs ys : List Pair) → IsPermutation xs ys → IsSorted (λ (a b : Pair). ordering_then (nat_cmp a.0 b.0) (nat_cmp a.1 b.1)) ys → ys ≡ sorted_by goes_before xs
-sorted_by-from_sort xs ys moved sorted = laws.arranged-from_sort goes_before laws.pair_order xs ys moved sorted
+sorted_by-from_sort xs ys moved sorted = laws.sorted_by-from_sort goes_before laws.pair_order xs ys moved sorted
 
 abbrev pub InOrder : List Pair → Type 0
 InOrder xs = laws.IsInOrder goes_before xs
@@ -60,10 +60,10 @@ pub one_list : (xs ys : List Pair) → InOrder xs → InOrder ys → ((p : Pair)
 one_list xs ys a b equal = laws.one_list goes_before laws.pair_order xs ys a b (λ p. counted _ _ (ties-is p) xs ∙ equal p ∙ sym (counted _ _ (ties-is p) ys))
 
 pub in_order-sorted_by : (xs : List Pair) → InOrder (sorted_by goes_before xs)
-in_order-sorted_by xs = laws.in_order-arranged goes_before (laws.weak goes_before laws.pair_order) xs
+in_order-sorted_by xs = laws.in_order-sorted_by goes_before (laws.weak goes_before laws.pair_order) xs
 
 pub all-sorted_by : (P : Pair → Type 0) (xs : List Pair) → AllByRecursion P xs → AllByRecursion P (sorted_by goes_before xs)
-all-sorted_by P xs all = laws.all-arranged goes_before P xs all
+all-sorted_by P xs all = laws.all-sorted_by goes_before P xs all
 
 pub times-sorted_by : (p : Pair) (xs : List Pair) → times p (sorted_by goes_before xs) ≡ times p xs
-times-sorted_by p xs = laws.arranged-count goes_before (λ q. (p.0 == q.0) && (p.1 == q.1)) xs
+times-sorted_by p xs = laws.sorted_by-count goes_before (λ q. (p.0 == q.0) && (p.1 == q.1)) xs

@@ -18,7 +18,7 @@ abbrev pub InOrder : List Pair → Type 0
 InOrder xs = laws.IsInOrder goes_before xs
 
 pub in_order-sorted_by : (xs : List Pair) → InOrder (sorted_by goes_before xs)
-in_order-sorted_by xs = laws.in_order-arranged goes_before (laws.weak goes_before laws.pair_order) xs
+in_order-sorted_by xs = laws.in_order-sorted_by goes_before (laws.weak goes_before laws.pair_order) xs
 
 pub order : IsStrictWeakOrder goes_before
 order = laws.weak goes_before laws.pair_order
@@ -78,7 +78,7 @@ count_before-more r s (x ∷ xs) h = step (goes_before x r) refl (count_before-m
 -- ---- the arranged list
 
 pub sorted_by-permuted : (xs ys : List Pair) → IsPermutation xs ys → sorted_by goes_before ys ≡ sorted_by goes_before xs
-sorted_by-permuted xs ys moved = sym (laws.arranged-same goes_before laws.pair_order xs ys moved)
+sorted_by-permuted xs ys moved = sym (laws.sorted_by-same goes_before laws.pair_order xs ys moved)
 
 swapped : (xs ys : List Pair) → sorted_by goes_before (ys ++ xs) ≡ sorted_by goes_before (xs ++ ys)
 swapped xs ys = sorted_by-permuted (xs ++ ys) (ys ++ xs) (IsPermutation-append_comm xs ys)
@@ -92,7 +92,7 @@ unfolding sorted_by
 sorted_by-more xs x = sym (swapped xs (x ∷ []))
 
 pub count_before-sorted_by : (r : Pair) (xs : List Pair) → count_before r (sorted_by goes_before xs) ≡ count_before r xs
-count_before-sorted_by r xs = laws.arranged-count goes_before (λ other. goes_before other r) xs
+count_before-sorted_by r xs = laws.sorted_by-count goes_before (λ other. goes_before other r) xs
 
 -- ---- the first k
 
@@ -188,13 +188,13 @@ pub put-few : (k : ℕ) (r : Pair) (old new : List Pair) → IsPermutation (r �
 unfolding sorted_by
 put-few k r old new moved few =
     let is = sorted_by-permuted (r ∷ old) new moved in
-    let long = laws.arranged-length goes_before new in
+    let long = laws.sorted_by-length goes_before new in
     is ∙ sym (ap (take k) (sym is) ∙ take_all k (sorted_by goes_before new) (omega (arith, long, few)) ∙ is)
 
 -- one more that is shut out changes nothing
 pub put-shut : (k : ℕ) (r : Pair) (xs : List Pair) → length xs ≤ k → k ≤ count_before r (sorted_by goes_before xs) → sorted_by goes_before xs ≡ take k (with_inserted goes_before r (sorted_by goes_before xs))
 put-shut k r xs few many =
-    let long = laws.arranged-length goes_before xs in
+    let long = laws.sorted_by-length goes_before xs in
     sym (take-with_inserted r k (sorted_by goes_before xs) (in_order-sorted_by xs) many ∙ take_all k (sorted_by goes_before xs) (omega (arith, long, few)))
 
 -- one more, and the greatest taken out
@@ -202,10 +202,10 @@ pub put-many : (k : ℕ) (r greatest : Pair) (old amid new : List Pair) → IsPe
     → sorted_by goes_before new ≡ take k (with_inserted goes_before r (sorted_by goes_before old))
 unfolding sorted_by
 put-many k r greatest old amid new first second below long =
-    let last : sorted_by goes_before (new ++ greatest ∷ []) ≡ sorted_by goes_before new ++ greatest ∷ [] = laws.arranged-append goes_before laws.pair_order new (greatest ∷ []) (behind new below) in
+    let last : sorted_by goes_before (new ++ greatest ∷ []) ≡ sorted_by goes_before new ++ greatest ∷ [] = laws.sorted_by-append goes_before laws.pair_order new (greatest ∷ []) (behind new below) in
     let whole : with_inserted goes_before r (sorted_by goes_before old) ≡ sorted_by goes_before new ++ greatest ∷ [] =
     sym (sorted_by-permuted (r ∷ old) amid first) ∙ sym (sorted_by-permuted amid (greatest ∷ new) second) ∙ sorted_by-permuted (new ++ greatest ∷ []) (greatest ∷ new) (IsPermutation-to_front new greatest) ∙ last in
-    sym (ap (take k) whole ∙ ap (λ n. take n (sorted_by goes_before new ++ greatest ∷ [])) (sym (laws.arranged-length goes_before new ∙ long)) ∙ take-append_seam (sorted_by goes_before new) (greatest ∷ []))
+    sym (ap (take k) whole ∙ ap (λ n. take n (sorted_by goes_before new ++ greatest ∷ [])) (sym (laws.sorted_by-length goes_before new ∙ long)) ∙ take-append_seam (sorted_by goes_before new) (greatest ∷ []))
   where
     behind : (xs : List Pair) → AllByRecursion (λ (y : Pair). goes_before greatest y ≡ false) xs → laws.AreAllAfter goes_before xs (greatest ∷ [])
     behind [] all = tt
