@@ -1,6 +1,6 @@
 -- What the cells of an object tell of a distance follows from the laws of a distance, pivot by pivot.
-use Rattle.std.proofs.Common.{◌≡◌, ℕ, ◌+◌, ◌≤◌, Bool, true, false, ◌&&◌, ◌||◌, List, [], ◌∷◌, ◌++◌, length, refl, sym, ap, ◌∙◌, arith}
-use Rattle.std.specs.Prelude.{nat_le, All, if◌then◌else◌}
+use Rattle.std.proofs.Common.{◌≡◌, ℕ, ◌+◌, ◌≤◌, max, Bool, true, false, ◌&&◌, ◌||◌, List, [], ◌∷◌, ◌++◌, length, refl, sym, ap, ◌∙◌, arith}
+use Rattle.std.specs.Prelude.{nat_le, All}
 use Rattle.std.specs.Int.{abs_diff}
 use Rattle.std.proofs.lemmas.Bool.Decides.{nat_tests}
 use Rattle.std.proofs.lemmas.List.{length-map}
@@ -30,7 +30,7 @@ sum-within x y radius h = grind (arith, nat_tests)
 both : (p q : Bool) → p ≡ true → q ≡ true → (p && q) ≡ true
 both p q h k = grind (arith, nat_tests)
 
-greater-within : (x y most : ℕ) → x ≤ most → y ≤ most → (if nat_le x y then y else x) ≤ most
+greater-within : (x y most : ℕ) → x ≤ most → y ≤ most → max x y ≤ most
 greater-within x y most h k = grind (arith, nat_tests)
 
 -- ---- all coordinates
@@ -86,7 +86,7 @@ length-cells_of dist pivots object = length-map pivots (λ pivot. dist object pi
 
 -- ---- bounds and tests
 
-within-step : (x y radius most : ℕ) (met : Bool) → met ≡ nat_le most radius → (near x radius y && met) ≡ nat_le (if nat_le (gap x y) most then most else gap x y) radius
+within-step : (x y radius most : ℕ) (met : Bool) → met ≡ nat_le most radius → (near x radius y && met) ≡ nat_le (max (gap x y) most) radius
 within-step x y radius most met h = grind (arith, nat_tests)
 
 zero-within : (radius : ℕ) → true ≡ nat_le 0 radius
