@@ -1,4 +1,5 @@
--- The rows that the code's macros write: each is computed to be a row of the tables, and that is what the laws of the curve rest on.
+-- The rows that the code's macros write: each is computed to be a row of the tables, and that is what the laws of the
+-- curve rest on.
 use Rattle.std.specs.Prelude.{◌≡◌, ℕ, zero, suc, ◌+◌, ◌-◌, ◌^◌, ◌<◌, ◌≤◌, List, length}
 use Rattle.std.proofs.Common.{refl, inl, inr, arith}
 use Rattle.std.proofs.lemmas.Bool.{cases_lt}
