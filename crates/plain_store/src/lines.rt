@@ -133,7 +133,7 @@ pub(crate) fn request_of<'a>(kind: Kind, words: &[&'a [u8]]) -> Result<Request<'
     }
 }
 
-/// The answer where the name is none of a command, or the number of words is another.
+/// The answer if the name isn't a command's, or the number of words is wrong.
 fn no_command<'a>() -> Result<Request<'a>, &'static str> {
     Err("command")
 }
@@ -236,7 +236,7 @@ fn id_of(word: &[u8]) -> Result<u64, &'static str> {
     number(word, 0, GREATEST).ok_or("id")
 }
 
-/// The word, where it is the text of an object.
+/// The word, if it is the text of an object.
 fn object_of<'a>(kind: Kind, word: &'a [u8]) -> Result<&'a [u8], &'static str> {
     let is_object = match kind {
         Kind::L1 { components, most } | Kind::LInf { components, most } => {
