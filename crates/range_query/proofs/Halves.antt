@@ -1,4 +1,4 @@
--- The pairs of each row with those behind it are those of all rows with all whose left id is the lesser.
+-- The pairs of each row with those after it are those of all rows with all whose left id is the lesser.
 use Rattle.std.proofs.Common.{◌≡◌, ◌≢◌, ℕ, Bool, true, false, List, [], ◌∷◌, ◌++◌, refl, sym, ap, subst, ◌∙◌, append_assoc, arith}
 use Rattle.std.specs.Prelude.{◌&&◌, not, nat_lt, if◌then◌else◌, filter, map, All}
 use Rattle.std.specs.List.{flat_map}
