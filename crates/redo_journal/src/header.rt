@@ -9,7 +9,7 @@ use crate::layout::{CHANGE_LIMIT, FIRST_HOME, HEADER_PAGE, NUMBERS_AT, PAGE_SIZE
 use arrayvec::ArrayVec;
 use byteorder::{BigEndian, ByteOrder};
 
-/// The numbers of the pages of a change, in rising order.
+/// The numbers of the pages of a change, in ascending order.
 pub(crate) type Numbers = ArrayVec<u32, CHANGE_LIMIT>;
 
 /// Whether a change may replace this page of a file of so many.
@@ -35,7 +35,7 @@ fn is_count(count: u32) -> bool
     (1..=CHANGE_LIMIT as u32).contains(&count)
 }
 
-/// Whether this number may stand in a header behind the last one.
+/// Whether this number may follow the last one in a header.
 fn is_next(total: u32, last: u32, n: u32) -> bool
     ensures { IsTrue result ↔ (IsHome total n × (last < n)) }
 {
