@@ -1,4 +1,4 @@
--- What a disk in memory holds, and which images a crash may leave of it.
+-- What a disk in memory holds, and its crash states.
 use Rattle.std.specs.Prelude.{◌≡◌, ◌⊎◌, ℕ, ◌+◌, ◌≤◌, max, List, [], ◌∷◌, ◌++◌, replicate}
 use Rattle.spb_edge.specs.declared.contents.Extent.{Extent}
 use Rattle.spb_edge.specs.Crash.{IsTornWrite}
