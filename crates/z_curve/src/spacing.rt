@@ -8,7 +8,7 @@ ghost use Rattle.z_curve.specs.Spacing.{most_bits, spread, shift_of, mask_of};
 struct Spacing {
     /// How far the upper half of each piece is moved. A step that finds one piece moves nothing.
     shifts: [u32; 5],
-    /// Where bits stand before the first step, and after each.
+    /// Where the bits are before the first step, and after each.
     masks: [u64; 6],
 }
 
@@ -140,7 +140,7 @@ pub(crate) fn spread<const N: usize>(number: u32) -> u64
     spread
 }
 
-/// The number whose bits stand `N` places apart in the key, from the lowest on. It takes at most 5
+/// The number whose bits are `N` places apart in the key, from the lowest on. It takes at most 5
 /// shifts and 6 masks.
 pub(crate) fn gather<const N: usize>(key: u64) -> u32
     requires low { 1 ≤ N }
