@@ -444,7 +444,7 @@ module _ {A : Type 0} (before : A → A → Bool) (o : IsStrictOrder before) whe
 
 -- ---- orders by a key
 
--- no two items have one key
+-- no two items have the same key
 abbrev pub HasDistinctKeys : {A B : Type 0} → (A → B) → List A → Type 0
 HasDistinctKeys key xs = AllPairs (λ a b. key a ≡ key b → ⊥) xs
 
