@@ -27,7 +27,7 @@ use Rattle.hilbert_curve.specs.declared.rows.fn.rows_of_8_from_160.TheConstants.
 use Rattle.hilbert_curve.specs.declared.rows.fn.rows_of_8_from_192.TheConstants.{ROWS as table_8_from_192}
 use Rattle.hilbert_curve.specs.declared.rows.fn.rows_of_8_from_224.TheConstants.{ROWS as table_8_from_224}
 
--- the rows for n axes from a number on, so many of them
+-- the rows for n axes from a number on, this many of them
 abbrev Rows : ℕ → ℕ → ℕ → Type 0
 Rows n first count = (w : ℕ) → first ≤ w → w < first + count → IsRow n w
 
