@@ -57,7 +57,7 @@ pub struct Counted<M: Metric> {
 }
 
 impl<M: Metric> Counted<M> {
-    /// A ruler by the metric, at 0.
+    /// A ruler by the metric, whose count is 0.
     pub fn new(metric: M) -> Counted<M>
         ensures { result ≡ record { metric = metric; count = 0 } }
     {
