@@ -84,7 +84,7 @@ module _ (nodes : Nodes) where
 -- ---- what is known between two iterations
 
 -- n candidates were measured, and the least ranks are the first of theirs. What is left is under the items and under
--- those that were left out of the queue, which the ranks that were seen prune. So many nodes of all in reach were
+-- those that were left out of the queue, which the ranks that were seen prune. This many nodes of all in reach were
 -- opened.
 pub record Looked (dist : List ℕ → List ℕ → ℕ) (object_at : ℕ → List ℕ) (query : List ℕ) (nodes : Nodes) (is_sound : ℕ → ℕ → Type 0) (k : ℕ) (cs : List Candidate) (n : ℕ) (least : List Pair) (items : List Waiting) (opened all : ℕ) : Type 0 where
   pub within : n ≤ length cs

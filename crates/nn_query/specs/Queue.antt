@@ -38,7 +38,7 @@ least_rank w = (w.bound, least_id w.kind)
 abbrev pub count_before : Rank → List Rank → ℕ
 count_before rank ranks = count_by (λ other. goes_before other rank) ranks
 
--- it is pruned: so many of the ranks go before all that is under it
+-- it is pruned: this many of the ranks go before all that is under it
 abbrev pub IsPruned : ℕ → List Rank → Waiting → Type 0
 IsPruned k ranks w = k ≤ count_before (least_rank w) ranks
 

@@ -24,8 +24,8 @@ use std::alloc::Global;
 ///
 /// It measures the query with each pivot, and then with the objects in the order of their lower bounds, the lesser id
 /// first, up to the last one that may still be among the nearest. It needs at most 8 pivots and 2^31 rows by them, no
-/// two with one id, and `k` of at least 1. It takes time in proportion to the rows, and the logarithm of them for each
-/// that is looked at, and memory for the rows' bounds and for `k` ranks.
+/// two with the same id, and `k` of at least 1. It takes time in proportion to the rows, and the logarithm of them for
+/// each that is looked at, and memory for the rows' bounds and for `k` ranks.
 pub fn near_rows<R: Ruler>(
     alloc: Global,
     rows: &[Row],
