@@ -27,8 +27,8 @@ pub fn map_object<R: Ruler>(ruler: &mut R, pivots: &[Bytes], object: &[u8]) -> V
     Vect::of(&at[..known])
 }
 
-/// Whether no pivot shows that the two objects are further apart than the radius: `|q_i - o_i| <= r` for
-/// each coordinate. The vectors have one length.
+/// Whether no pivot shows that the two objects are further apart than the radius: `|q_i - o_i| <= r` for each
+/// coordinate. The vectors have the same length.
 pub fn meets(q: &Vect, o: &Vect, r: u32) -> bool
     requires { length q.now ≡ length o.now }
     ensures { result ≡ meets q.now r o.now }
@@ -39,8 +39,8 @@ pub fn meets(q: &Vect, o: &Vect, r: u32) -> bool
         .all(|(&a, &b)| a.abs_diff(b) <= r)
 }
 
-/// Whether some pivot shows that the two objects are within the radius of each other: `q_i + o_i <= r` for
-/// some coordinate, the sum taken in 64 bits. The vectors have one length.
+/// Whether some pivot shows that the two objects are within the radius of each other: `q_i + o_i <= r` for some
+/// coordinate, the sum taken in 64 bits. The vectors have the same length.
 pub fn sure(q: &Vect, o: &Vect, r: u32) -> bool
     requires { length q.now ≡ length o.now }
     ensures { result ≡ is_sure q.now r o.now }
@@ -59,7 +59,7 @@ fn is_within(a: u32, b: u32, r: u32) -> bool
 }
 
 /// The lower bound of the distance of two objects: the greatest `|q_i - o_i|`, and 0 without coordinates. The vectors
-/// have one length.
+/// have the same length.
 pub fn lower(q: &Vect, o: &Vect) -> u32
     requires { length q.now ≡ length o.now }
     ensures { result ≡ lower_bound q.now o.now }

@@ -18,8 +18,8 @@ pub enum PairTest {
     Sure,
 }
 
-/// Tests a query, by its distances to the pivots, and an object, by its cells; the two have one length. It looks at
-/// each coordinate once if they are apart, and at most twice otherwise, and takes no memory.
+/// Tests a query, by its distances to the pivots, and an object, by its cells; the two have the same length. It looks
+/// at each coordinate once if they are apart, and at most twice otherwise, and takes no memory.
 pub fn test_query(q: &Vect, o: &Vect, r: u32) -> PairTest
     requires { length q.now ≡ length o.now }
     ensures { result ≡ query_verdict q.now r o.now }
@@ -33,8 +33,8 @@ pub fn test_query(q: &Vect, o: &Vect, r: u32) -> PairTest
     PairTest::Open
 }
 
-/// Tests two objects by their cells, which have one length. A cell is one distance, so the test is that of a
-/// query and an object.
+/// Tests two objects by their cells, which have the same length. A cell is one distance, so the test is that of a query
+/// and an object.
 pub fn test_pair(a: &Vect, b: &Vect, r: u32) -> PairTest
     requires { length a.now ≡ length b.now }
     ensures { result ≡ pair_verdict a.now r b.now }
