@@ -79,7 +79,7 @@ facing a (c ∷ rows) all =
     (one_way a.0 c.0 (All-head (λ (c : Entry). a.0 ≢ c.0) c rows all))
     (facing a rows (All-tail (λ (c : Entry). a.0 ≢ c.0) c rows all))
 
--- no two rows have one id
+-- no two rows have the same id
 abbrev pub AreDistinct : List Entry → Type 0
 AreDistinct [] = Unit {0}
 AreDistinct (a ∷ rows) = All (λ (c : Entry). a.0 ≢ c.0) rows × AreDistinct rows

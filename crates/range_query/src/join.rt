@@ -21,7 +21,8 @@ use std::alloc::Global;
 /// the lesser id is on the left.
 ///
 /// It measures the pairs that the pivots leave open. It needs at most 8 pivots, and on each side at most 2^31 rows by
-/// them, no two with one id. It tests the vectors of each pair of rows once, and takes memory for the answer alone.
+/// them, no two with the same id. It tests the vectors of each pair of rows once, and takes memory for the answer
+/// alone.
 pub fn join_rows<R: Ruler>(
     alloc: Global,
     left: &[Row],

@@ -16,8 +16,8 @@ use std::alloc::Global;
 /// The rows within the radius `r` of the query, exactly as a scan of all rows would find them.
 ///
 /// It measures the query with each pivot, and then with the objects that the pivots leave open, in the order of the
-/// rows. It needs at most 8 pivots and 2^31 rows by them, no two with one id. It passes over the rows once, and takes
-/// memory for the answer alone.
+/// rows. It needs at most 8 pivots and 2^31 rows by them, no two with the same id. It passes over the rows once, and
+/// takes memory for the answer alone.
 pub fn range_rows<R: Ruler>(
     alloc: Global,
     rows: &[Row],
