@@ -7,7 +7,7 @@ use Rattle.redo_journal.specs.Redo.{entries_from, journal_entries}
 use Rattle.redo_journal.specs.Change.{page_entries}
 use Rattle.redo_journal.proofs.Pages.{page_front}
 
--- so many pages from a place on are the images there
+-- this many pages from a place on are the images there
 pub images_read : (image : List ℕ) (i : ℕ) (ns : List ℕ) → page_entries 512 ns (take (512 * length ns) (drop (512 * i) image)) ≡ entries_from image i ns
 images_read image i [] = refl
 images_read image i (n ∷ ns) =

@@ -52,7 +52,7 @@ abbrev pub IsBetween : List ℕ → ℕ → ℕ → Type 0
 IsBetween numbers n place = (place ≤ length numbers) × ((k : ℕ) → k < place → slice_index numbers k < n)
     × ((k : ℕ) → place ≤ k → k < length numbers → n < slice_index numbers k)
 
--- a change in progress: of a file of so many pages, its header's page, and its pages by their numbers
+-- a change in progress: of a file of this many pages, its header's page, and its pages by their numbers
 pub record StagedPages : Type 0 where
   pub total : ℕ
   pub header : List ℕ

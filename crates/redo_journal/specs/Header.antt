@@ -19,7 +19,7 @@ number_bytes n = big_bytes 4 n
 abbrev pub image_count : List ℕ → ℕ
 image_count header = leading_number header
 
--- so many numbers of four bytes each, the highest byte first
+-- this many numbers of four bytes each, the highest byte first
 abbrev pub numbers_in : ℕ → List ℕ → List ℕ
 numbers_in zero bytes = []
 numbers_in (suc n) bytes = leading_number bytes ∷ numbers_in n (drop 4 bytes)

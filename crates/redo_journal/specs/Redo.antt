@@ -31,7 +31,7 @@ overlay entries pages n = page_or (lookup (λ m. m == n) entries) (pages n)
 abbrev pub redo_page : List ℕ → ℕ → List ℕ
 redo_page image n = if has_open_gate image then overlay (journal_entries image) (page image) n else page image n
 
--- The image has so many pages, those of the journal among them; if its gate is open, the header is in its ranges; and
+-- The image has this many pages, those of the journal among them; if its gate is open, the header is in its ranges; and
 -- it stands for this magic and these pages.
 pub record RecoversTo (total : ℕ) (image marks : List ℕ) (home : ℕ → List ℕ) : Type 0 where
   pub least : LEAST_PAGES ≤ total

@@ -44,7 +44,7 @@ impl Model for Staged {
 }
 
 impl Staged {
-    /// No page, of a file of so many.
+    /// No page, of a file of this many.
     pub(crate) fn new(alloc: Global, total: u32) -> Result<Staged, Memory>
         ensures { IfOk result (λ staged. (staged.pages ≡ []) × (staged.total ≡ total)) }
     {
@@ -164,7 +164,7 @@ impl Staged {
     }
 }
 
-/// Reads so many of the journal's images after the header's page. There is room for them.
+/// Reads this many of the journal's images after the header's page. There is room for them.
 fn read_images<D: Disk>(disk: &mut D, body: &mut Vec<u8>, count: usize) -> Result<(), DiskFault>
     requires few { count ≤ CHANGE_LIMIT }
     requires header { PAGE_SIZE ≤ vec_len body.old }

@@ -17,7 +17,7 @@ enum Home {
     Mixed,
 }
 
-/// A file of so many pages: the magic, a closed gate, and each page after the mark page full of its number.
+/// A file of this many pages: the magic, a closed gate, and each page after the mark page full of its number.
 fn file(alloc: Global, pages: u32) -> Result<Vec<u8>, AllocError> {
     let mut file = Vec::new(alloc);
     file.extend_from_slice(b"spbstore")?;
@@ -56,8 +56,8 @@ fn home_of(image: &[u8]) -> Home {
     }
 }
 
-/// A disk of 90 pages with this image, which stops after so many calls and whose calls in `failing`
-/// fail.
+/// A disk of 90 pages with this image, which stops after this many calls and whose calls in
+/// `failing` fail.
 fn disk_of(
     alloc: Global,
     image: &[u8],
