@@ -1,4 +1,4 @@
--- Rows by their ids, if no two have one id.
+-- Rows by their ids, if no two have the same id.
 use Rattle.std.proofs.Common.{◌≡◌, ◌≢◌, ℕ, ◌+◌, ◌<◌, ◌≤◌, Bool, true, false, not, cond, Option, Some, None, List, [], ◌∷◌, ◌++◌, length, get_or, All, Contains, IsPermutation, swap, ⊎_elim, refl, sym, ap, ◌∙◌, zero, suc, arith, if◌then◌else◌, ◌==◌}
 use Rattle.std.specs.Option.{option_or}
 use Rattle.std.proofs.lemmas.Bool.Decides.{nat_tests}

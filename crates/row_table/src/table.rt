@@ -11,8 +11,8 @@ use std::alloc::Global;
 use std::collections::BTreeMap;
 use std::marker::Model;
 
-/// The rows of one collection, side by side, and an index from each id to its place. No two rows have one id. Contracts
-/// see the list of the rows, in their order.
+/// The rows of one collection, side by side, and an index from each id to its place. No two rows have the same id.
+/// Contracts see the list of the rows, in their order.
 ///
 /// It takes memory for the rows, and for an entry of the index for each.
 #[derive(Drop)]
