@@ -7,7 +7,7 @@ use Rattle.answer_lists.specs.Order.{sorted_by}
 use Rattle.spb_defs.specs.Scans.{Entry}
 use Rattle.spb_defs.specs.State.{Key, Members, key_cmp}
 
--- no two rows have one id
+-- no two rows have the same id
 abbrev pub HasDistinctEntryIds : List Entry → Type 0
 HasDistinctEntryIds rows = AllPairs (λ a b. a.0 ≢ b.0) rows
 
