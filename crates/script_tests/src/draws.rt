@@ -150,7 +150,7 @@ fn drawn_script(alloc: Global, seed: u64, objects: &[&str]) -> Result<String, Al
     Ok(script)
 }
 
-/// Whether both programs answer the script drawn from the seed the same with so many pivots.
+/// Whether both programs answer the script drawn from the seed the same with this many pivots.
 fn is_drawn_alike<'a>(
     alloc: Global,
     texts: &[&'a str],

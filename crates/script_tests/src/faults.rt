@@ -73,7 +73,7 @@ fn a_stream_that_fails_ends_the_run(rt: HostRuntime) -> Result<(), Fail> {
     Ok(())
 }
 
-/// Whether a script whose last line has no LF is answered when at most so many bytes come at once.
+/// Whether a script whose last line has no LF is answered when at most this many bytes come at once.
 fn is_answered_in_pieces(alloc: Global, piece: usize) -> Result<bool, Fail> {
     let streams = Streams {
         script: "add 0 1 0,0\nadd 0 2 3,4\n\nrange 0 7 0,0\nadd 0 1 1,1\nrange 0 6 0,0",
