@@ -64,7 +64,7 @@ greatest-above (x ∷ xs) (suc k) =
 
 -- ---- the places
 
--- so many places are chosen
+-- this many places are chosen
 pub chosen-length : (dist : Distance) (samples : List Object) (n : ℕ) → length (chosen_places dist samples n) ≡ n
 unfolding chosen_places
 chosen-length dist samples zero = refl

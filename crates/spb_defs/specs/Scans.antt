@@ -67,7 +67,7 @@ ranks_of dist rows query = map (λ row. (dist query row.1, row.0)) rows
 abbrev pub scan_near : Distance → List Entry → Object → ℕ → List Rank
 scan_near dist rows query k = take k (sorted_by goes_before (ranks_of dist rows query))
 
--- the k-th of all rows, if there are so many
+-- the k-th of all rows, if there are that many
 abbrev pub kth_rank : Distance → List Entry → Object → ℕ → Option Rank
 kth_rank dist rows query k = slice_get (sorted_by goes_before (ranks_of dist rows query)) (k - 1)
 

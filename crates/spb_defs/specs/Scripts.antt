@@ -15,7 +15,7 @@ with_lf text = text ++ 10 ∷ []
 abbrev pub IsAnswered : State → List (List ℕ) → List (List ℕ) → Type 0
 IsAnswered s lines replies = play s (flat_map with_lf lines) ≡ flat_map with_lf replies
 
--- an empty store of points with two components from 0 to 255, and one that wants so many pivots
+-- an empty store of points with two components from 0 to 255, and one that wants this many pivots
 abbrev pub plane : State
 plane = empty_in_memory (L1 2 255) 0
 

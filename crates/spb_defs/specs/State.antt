@@ -38,7 +38,7 @@ pub record State : Type 0 where
   pub samples : Option (List Object)
   pub members : Members
 
--- the store in memory before the first line, with so many pivots wanted
+-- the store in memory before the first line, with this many pivots wanted
 abbrev pub empty_in_memory : Space → ℕ → State
 empty_in_memory space wanted =
     record { space = space; wanted = wanted; pivots = []; curve = None; cap = MEMORY_CAP; samples = Some []; members = [] }

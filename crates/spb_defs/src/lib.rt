@@ -55,7 +55,7 @@ pub enum CurveKind {
 pub enum Asked {
     /// Answers a script from an empty store in memory.
     Mem(MemorySetup),
-    /// Makes a store in a file: by this curve, with at most so many pivots (1 to 8) and objects (1 to 65536), of this
+    /// Makes a store in a file: by this curve, with at most this many pivots (1 to 8) and objects (1 to 65536), of this
     /// space.
     Make {
         curve: CurveKind,
@@ -67,7 +67,7 @@ pub enum Asked {
     Run,
     /// Checks a store in a file.
     Check,
-    /// Makes a store in a file and runs a generated script on it, of so many objects (1 to 65536).
+    /// Makes a store in a file and runs a generated script on it, of this many objects (1 to 65536).
     Trial {
         seed: u64,
         count: u32,
