@@ -30,7 +30,7 @@ pub join-rest : (byte : ℕ) (kept : List ℕ) (range : Extent) (ranges : List E
 join-rest byte kept range ranges least (within, rest) =
     subst (λ (n : ℕ). ReachTo n ranges least) (sym (length-overwritten_at kept range.at (replicate range.len byte) within ∙ ap (λ n. max (length kept) (range.at + n)) (length-replicate range.len byte))) rest
 
--- so many of a byte in each range is a crash state
+-- each range filled with a byte is a crash state
 pub fills : (byte : ℕ) (kept : List ℕ) (ranges : List Extent) (least : ℕ) → ReachTo (length kept) ranges least → AreTornOver kept ranges (with_ranges_filled byte kept ranges)
 fills byte kept [] least join = refl
 fills byte kept (range ∷ ranges) least join =
@@ -83,7 +83,7 @@ grown-overwritten_at old items with_ranges_filled at count growth byte len withi
         drop_of_length-le (old ++ replicate growth byte) (omega (arith, le, length-append old (replicate growth byte), length-replicate growth byte))
         ∙ sym (drop_of_length-le old (omega (arith, le)))
 
--- an image that was made longer by so many of a byte
+-- an image that was made longer by this many of a byte
 pub resized : (old reserved items : List ℕ) (len growth byte n : ℕ) → reserved ≡ old → len ≡ length reserved → n ≡ length reserved
     → items ≡ take (len + growth) reserved ++ replicate (len + growth - n) byte → items ≡ old ++ replicate growth byte
 resized old reserved items len growth byte n same is also made =

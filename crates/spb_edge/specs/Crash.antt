@@ -8,8 +8,8 @@ use Rattle.std.specs.Prelude.{◌≡◌, ◌⊎◌, ℕ, ◌+◌, ◌<◌, ◌�
 abbrev pub EqualOutside : ℕ → ℕ → List ℕ → List ℕ → Type 0
 EqualOutside from to old new = (k : ℕ) → k < length old → (k < from) ⊎ (to ≤ k) → slice_index new k ≡ slice_index old k
 
--- a write of so many bytes, cut short by a crash: any bytes in its range, and any part of the growth
--- past the old end; the same elsewhere
+-- a write of this many bytes, cut short by a crash: any bytes in its range, and any part of the growth past the old
+-- end; the same elsewhere
 pub record IsTornWrite (at count : ℕ) (old new : List ℕ) : Type 0 where
   pub no_shorter : length old ≤ length new
   pub no_longer : length new ≤ max (length old) (at + count)

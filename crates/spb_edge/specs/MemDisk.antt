@@ -87,8 +87,8 @@ pub record IsReplayed (first : List ℕ) (log : Log) (held : Contents) : Type 0 
   pub ranges : length held.unsynced ≤ length log.calls
   pub room : held.room ≡ log.call_room
 
--- the image that a crash leaves by choice: all that was written, the kept image, or that with so many of
--- a byte in each range since
+-- the image that a crash leaves by choice: all that was written, the kept image, or that with this many of a byte in
+-- each range since
 abbrev pub chosen_crash_state : Choice → Contents → List ℕ
 chosen_crash_state KeepAll now = now.image
 chosen_crash_state DropAll now = now.kept

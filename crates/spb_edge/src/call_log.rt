@@ -64,7 +64,7 @@ impl Model for Log {
 }
 
 impl Log {
-    /// A record without a call, which takes its room now.
+    /// An empty record, which takes its memory now.
     pub(crate) fn new(
         alloc: Global,
         failing: &[u64],

@@ -56,7 +56,7 @@ fn reserve(image: &mut Vec<u8>, kept: &mut Vec<u8>, growth: usize) -> Result<(),
 }
 
 impl Contents {
-    /// A copy of the image, all of it kept, and room for so many ranges.
+    /// A copy of the image, all of it kept, and room for `room` ranges.
     pub(crate) fn new(alloc: Global, image: &[u8], room: usize) -> Result<Contents, Memory>
         ensures { IfOk result (λ now. now ≡ fresh_contents image.now room) }
     {
@@ -126,7 +126,7 @@ impl Contents {
         self.unsynced.clear();
     }
 
-    /// The kept image with so many of the byte in each range since.
+    /// The kept image, with each range written since filled with the byte.
     pub(crate) fn filled(&self, alloc: Global, byte: u8) -> Result<Bytes, Memory>
         ensures filled { IfOk result (λ bytes. bytes ≡ with_ranges_filled byte self.now.kept self.now.unsynced) }
         ensures leaves { IfOk result (λ bytes. AreTornOver self.now.kept self.now.unsynced bytes) }

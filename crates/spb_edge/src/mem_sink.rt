@@ -7,7 +7,7 @@ use crate::{Memory, Put, Sink};
 use std::alloc::Global;
 use std::marker::Model;
 
-/// A sink in memory with room for so many bytes, some of whose calls fail.
+/// A sink in memory with limited room, some of whose calls fail.
 #[derive(Debug, Drop)]
 pub struct MemSink {
     taken: Vec<u8>,

@@ -102,7 +102,7 @@ impl From<Memory> for EdgeError {
     }
 }
 
-/// Gives the lines of a source one by one, however its bytes come in pieces.
+/// Gives the lines of a source one by one, however its bytes are cut into pieces.
 ///
 /// It keeps the reference that it was made with, and dropping it takes nothing from the source. Its
 /// buffer is part of it, so that only the text of a line takes memory.
@@ -139,8 +139,8 @@ impl<'a, S: Source> LineReader<'a, S> {
         })
     }
 
-    /// The next line, however the source's bytes come in pieces: its text if it is within `limit` bytes, [`Line::Long`]
-    /// if it is over it, and [`Line::End`] if nothing is left.
+    /// The next line, however the source's bytes are cut into pieces: its text if it is within `limit` bytes,
+    /// [`Line::Long`] if it is over it, and [`Line::End`] if nothing is left.
     ///
     /// No earlier call of this reader may have answered an error. `ReadFault` comes only if the source counted a fault
     /// in this call, and `InputLimit` exactly if [`INPUT_LIMIT`] bytes were taken and the next take gave more. If one

@@ -8,7 +8,7 @@ use thiserror::Error;
 /// What a call of [`Sink::put`] answers.
 #[derive(Clone, Copy, Debug, PartialEq, Eq)]
 pub enum Put {
-    /// So many of the first bytes of the piece, at least one, were taken.
+    /// This many of the first bytes of the piece, at least one, were taken.
     Took(usize),
     /// Nothing was taken, and the sink counted a fault.
     Failed,

@@ -4,7 +4,7 @@ ghost use Rattle.std.specs.Prelude.{ℕ, ◌<◌, List, Option, length};
 /// What a call of [`Source::take`] answers.
 #[derive(Clone, Copy, Debug, PartialEq, Eq)]
 pub enum Take {
-    /// So many bytes, at least one, are at the start of the buffer.
+    /// This many bytes, at least one, are at the start of the buffer.
     Got(usize),
     /// Nothing is left.
     End,
