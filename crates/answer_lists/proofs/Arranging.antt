@@ -43,7 +43,7 @@ times-cons p q qs = sum_by-cons _ q qs
 tied_if : (a b c d : ℕ) → (not (nat_lt a c || ((a == c) && nat_lt b d)) && not (nat_lt c a || ((c == a) && nat_lt d b))) ≡ ((a == c) && (b == d))
 tied_if a b c d = grind (arith, nat_tests)
 
--- two ranks tie where both parts are the same
+-- two ranks tie if both parts are the same
 ties-is : (p q : Pair) → ties goes_before p q ≡ ((p.0 == q.0) && (p.1 == q.1))
 ties-is p q = rw (goes_before-is p q, goes_before-is q p) (tied_if p.0 p.1 q.0 q.1)
 

@@ -17,7 +17,7 @@ use Rattle.std.proofs.lemmas.Option.{get_or_from_slice_get, slice_get_within}
 use Rattle.std.proofs.Math.Seq.{take-append_seam}
 use Rattle.answer_lists.specs.Order.{goes_before, with_inserted, sorted_by}
 
--- an order of items, in which no two of them stand at one place
+-- a strict total order of items
 pub record IsStrictOrder {A : Type 0} (before : A → A → Bool) : Type 0 where
   -- none goes before itself
   pub never_itself : (a : A) → before a a ≡ false
@@ -59,7 +59,7 @@ module _ {A : Type 0} (before : A → A → Bool) where
   with_inserted-permutation x [] = IsPermutation-refl (x ∷ [])
   with_inserted-permutation x (y ∷ ys) = moved_if (before y x) x y ys (with_inserted before x ys) (with_inserted-permutation x ys)
 
-  -- the arranged list has the items of the list
+  -- the sorted list has the items of the list
   pub sorted_by-permutation : (xs : List A) → IsPermutation (sorted_by before xs) xs
   unfolding sorted_by
   sorted_by-permutation [] = IsPermutation-refl []
@@ -101,7 +101,7 @@ module _ {A B : Type 0} (before : B → B → Bool) (key : A → B) where
   sorted_by-map [] = refl
   sorted_by-map (x ∷ xs) = map-with_inserted x (sorted_by (λ a b. before (key a) (key b)) xs) ∙ ap (with_inserted before (key x)) (sorted_by-map xs)
 
--- ---- what holds where any two items compare
+-- ---- what holds if any two items compare
 
 module _ {A : Type 0} (before : A → A → Bool) (w : IsStrictWeakOrder before) where
   further : (x y : A) (ys : List A) → before y x ≡ false → AllByRecursion (λ z. before z y ≡ false) ys → AllByRecursion (λ z. before z x ≡ false) ys
@@ -116,7 +116,7 @@ module _ {A : Type 0} (before : A → A → Bool) (w : IsStrictWeakOrder before)
   in_order-with_inserted x [] up = (tt, tt)
   in_order-with_inserted x (y ∷ ys) up = ordered_if (before y x) x y ys refl up (in_order-with_inserted x ys up.1)
 
-  -- the arranged list is in order
+  -- the sorted list is in order
   pub in_order-sorted_by : (xs : List A) → IsInOrder before (sorted_by before xs)
   unfolding sorted_by
   in_order-sorted_by [] = tt
@@ -156,12 +156,12 @@ module _ {A : Type 0} (before : A → A → Bool) (w : IsStrictWeakOrder before)
   pub sorted_by-sorted : (xs : List A) → IsSortedBy before (sorted_by before xs)
   sorted_by-sorted xs = sorted_by-in_order (sorted_by before xs) (in_order-sorted_by xs)
 
-  -- where none goes before the item, it stays in front
+  -- if none goes before the item, it comes first
   with_inserted-first : (x : A) (ys : List A) → AllByRecursion (λ y. before y x ≡ false) ys → with_inserted before x ys ≡ x ∷ ys
   with_inserted-first x [] all = refl
   with_inserted-first x (y ∷ ys) all = ap (λ b. if b then y ∷ with_inserted before x ys else x ∷ y ∷ ys) all.0
 
-  -- a list in order is its own arrangement
+  -- a list in order is its own sorted list
   pub sorted_by-already : (xs : List A) → IsInOrder before xs → sorted_by before xs ≡ xs
   unfolding sorted_by
   sorted_by-already [] up = refl
@@ -215,7 +215,7 @@ module _ {A : Type 0} (before : A → A → Bool) (w : IsStrictWeakOrder before)
   arranged_if true x ys zs h k = sym h
   arranged_if false x ys zs h k = sym k
 
-  -- the items that pass, arranged, are those of the arranged list that pass
+  -- the items that pass, sorted, are those of the sorted list that pass
   pub sorted_by-filter : (p : A → Bool) (xs : List A) → sorted_by before (filter p xs) ≡ filter p (sorted_by before xs)
   unfolding sorted_by
   sorted_by-filter p [] = refl
@@ -224,7 +224,7 @@ module _ {A : Type 0} (before : A → A → Bool) (w : IsStrictWeakOrder before)
       arranged_if (p x) x (filter p (sorted_by before xs)) (filter p xs) (ap (with_inserted before x) more) more
       ∙ sym (filter-with_inserted p x (sorted_by before xs) (in_order-sorted_by xs))
 
--- lists behind one another
+-- one list after another
 
 module _ {A : Type 0} (before : A → A → Bool) where
   all-append : (P : A → Type 0) (xs ys : List A) → AllByRecursion P xs → AllByRecursion P ys → AllByRecursion P (xs ++ ys)
@@ -243,7 +243,7 @@ module _ {A : Type 0} (before : A → A → Bool) where
   in_order-append [] back up more behind = more
   in_order-append (x ∷ front) back up more behind = (all-append (λ y. before y x ≡ false) front back up.0 behind.0, in_order-append front back up.1 more behind.1)
 
-  -- the parts of a list in order are in order, and the second is behind the first
+  -- the parts of a list in order are in order, and the second comes after the first
   pub in_order-front : (front back : List A) → IsInOrder before (front ++ back) → IsInOrder before front
   in_order-front [] back up = tt
   in_order-front (x ∷ front) back up = (all-front (λ y. before y x ≡ false) front back up.0, in_order-front front back up.1)
@@ -260,7 +260,7 @@ module _ {A : Type 0} (before : A → A → Bool) where
   behind-append [] back more a b = tt
   behind-append (x ∷ front) back more a b = (all-append (λ y. before y x ≡ false) back more a.0 b.0, behind-append front back more a.1 b.1)
 
-  -- behind the items, as behind the arranged items
+  -- after the items, as after the sorted items
   pub behind-sorted_by : (front back : List A) → AreAllAfter before front back → AreAllAfter before (sorted_by before front) (sorted_by before back)
   behind-sorted_by front back h = all-sorted_by before (λ x. AllByRecursion (λ y. before y x ≡ false) (sorted_by before back)) front (each front h)
     where
@@ -340,7 +340,7 @@ module _ {A : Type 0} (before : A → A → Bool) (o : IsStrictOrder before) whe
   pub in_order-same : (xs ys : List A) → IsInOrder before xs → IsInOrder before ys → IsPermutation xs ys → xs ≡ ys
   in_order-same xs ys a b moved = one_list xs ys a b (λ p. sym (sum_by-IsPermutation _ xs ys moved))
 
-  -- a list in order of the items of xs is the arranged list
+  -- a list in order of the items of xs is the sorted list
   pub sorted_by-unique : (xs ys : List A) → IsPermutation xs ys → IsInOrder before ys → ys ≡ sorted_by before xs
   sorted_by-unique xs ys moved up =
       in_order-same ys (sorted_by before xs) up (in_order-sorted_by before weak xs) (IsPermutation-trans _ _ _ (IsPermutation-sym _ _ moved) (permutation-sorted_by before xs))
@@ -349,12 +349,12 @@ module _ {A : Type 0} (before : A → A → Bool) (o : IsStrictOrder before) whe
   pub sorted_by-from_sort : (xs ys : List A) → IsPermutation xs ys → IsSortedBy before ys → ys ≡ sorted_by before xs
   sorted_by-from_sort xs ys moved sorted = sorted_by-unique xs ys moved (in_order-from_sorted before weak ys sorted)
 
-  -- the order of the items in a list is nothing to its arrangement
+  -- the order of the items in a list doesn't change the sorted list
   pub sorted_by-same : (xs ys : List A) → IsPermutation xs ys → sorted_by before xs ≡ sorted_by before ys
   sorted_by-same xs ys moved =
       sorted_by-unique ys (sorted_by before xs) (IsPermutation-trans _ _ _ (IsPermutation-sym _ _ moved) (permutation-sorted_by before xs)) (in_order-sorted_by before weak xs)
 
-  -- lists of which the second is behind the first are arranged one by one
+  -- if the second list comes after the first, each is sorted by itself
   pub sorted_by-append : (front back : List A) → AreAllAfter before front back → sorted_by before (front ++ back) ≡ sorted_by before front ++ sorted_by before back
   sorted_by-append front back behind =
       sym
@@ -362,7 +362,7 @@ module _ {A : Type 0} (before : A → A → Bool) (o : IsStrictOrder before) whe
       (IsPermutation-append _ _ _ _ (permutation-sorted_by before front) (permutation-sorted_by before back))
       (in_order-append before (sorted_by before front) (sorted_by before back) (in_order-sorted_by before weak front) (in_order-sorted_by before weak back) (behind-sorted_by before front back behind)))
 
-  -- a front of the arranged list stays where it is if what comes to the list is behind it
+  -- a prefix of the sorted list stays if all that is added comes after it
   pub sorted_by-more : (xs more front back : List A) → sorted_by before xs ≡ front ++ back → AreAllAfter before front more → sorted_by before (xs ++ more) ≡ front ++ sorted_by before (back ++ more)
   sorted_by-more xs more front back parts behind =
       let up : IsInOrder before (front ++ back) = subst (IsInOrder before) parts (in_order-sorted_by before weak xs) in
@@ -371,13 +371,13 @@ module _ {A : Type 0} (before : A → A → Bool) (o : IsStrictOrder before) whe
       ∙ sorted_by-append front (back ++ more) (behind-append before front back more (in_order-behind before front back up) behind)
       ∙ ap (λ zs. zs ++ sorted_by before (back ++ more)) (sorted_by-already before weak front (in_order-front before front back up))
 
-  -- the parts of the arranged list are in order, and the second is behind the first
+  -- the parts of the sorted list are in order, and the second comes after the first
   pub sorted_by-parts : (xs front back : List A) → sorted_by before xs ≡ front ++ back → IsInOrder before front × IsInOrder before back × AreAllAfter before front back
   sorted_by-parts xs front back parts =
       let up : IsInOrder before (front ++ back) = subst (IsInOrder before) parts (in_order-sorted_by before weak xs) in
       (in_order-front before front back up, in_order-back before front back up, in_order-behind before front back up)
 
-  -- ---- the first of the arranged list
+  -- ---- the first of the sorted list
 
   -- items of which none of the others goes before one are the first
   pub sorted_by-first : (xs front back : List A) → IsPermutation xs (front ++ back) → AreAllAfter before front back → take (length front) (sorted_by before xs) ≡ sorted_by before front
@@ -444,7 +444,7 @@ module _ {A : Type 0} (before : A → A → Bool) (o : IsStrictOrder before) whe
 
 -- ---- orders by a key
 
--- no two items have one key
+-- no two items have the same key
 abbrev pub HasDistinctKeys : {A B : Type 0} → (A → B) → List A → Type 0
 HasDistinctKeys key xs = AllPairs (λ a b. key a ≡ key b → ⊥) xs
 
@@ -507,7 +507,7 @@ module _ {A B : Type 0} (before : B → B → Bool) (o : IsStrictOrder before) (
           none (w ∷ ws) e = absurd (omega (arith, e))
       go (u ∷ zs) e = ext_get_or u us vs (sym (length_permutation us vs moved)) (λ i inside. at u i inside)
 
-  -- the order of the items in a list is nothing to its arrangement by distinct keys
+  -- the order of the items in a list doesn't change the sorted listby distinct keys
   pub arranged_by-same : (xs ys : List A) → IsPermutation xs ys → HasDistinctKeys key xs → sorted_by by_key xs ≡ sorted_by by_key ys
   arranged_by-same xs ys moved h =
       let whole : IsPermutation (sorted_by by_key xs) (sorted_by by_key ys) = IsPermutation-trans _ _ _ (sorted_by-permutation by_key xs) (IsPermutation-trans _ _ _ moved (permutation-sorted_by by_key ys)) in
@@ -520,7 +520,7 @@ module _ {A B : Type 0} (before : B → B → Bool) (o : IsStrictOrder before) (
   pub arranged_by-unique : (xs ys : List A) → IsPermutation xs ys → HasDistinctKeys key xs → IsInOrder by_key ys → ys ≡ sorted_by by_key xs
   arranged_by-unique xs ys moved h up = sym (arranged_by-same xs ys moved h ∙ sorted_by-already by_key weak_by_key ys up)
 
-  -- the items that pass, arranged by their keys; equal keys are allowed
+  -- the items that pass, sorted by their keys; equal keys are allowed
   pub arranged_by-filter : (p : A → Bool) (xs : List A) → sorted_by by_key (filter p xs) ≡ filter p (sorted_by by_key xs)
   arranged_by-filter p xs = sorted_by-filter by_key weak_by_key p xs
 

@@ -11,7 +11,7 @@ permutation-fronts a b c =
     (subst (IsPermutation (a ++ b ++ c)) (append_assoc b a c) (IsPermutation-append_left c (a ++ b) (b ++ a) (IsPermutation-append_comm a b)))
 
 module _ {A B : Type 0} (f : A → List B) where
-  -- an item goes in, and what stood in its place comes out
+  -- an item is put in a place, and the one there comes out
   flat_map-set : (l : List A) (j : ℕ) (x d : A) → j < length l → IsPermutation (f x ++ flat_map f l) (f (get_or l j d) ++ flat_map f (set l j x))
   flat_map-set [] j x d inside = absurd (omega (arith, inside))
   flat_map-set (z ∷ l) zero x d inside = permutation-fronts (f x) (f z) (flat_map f l)

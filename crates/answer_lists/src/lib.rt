@@ -1,4 +1,4 @@
-//! The lists that answers are made of, and the order that they stand in.
+//! The lists that answers are made of, and their order.
 #![tactic(auto)]
 
 mod lists;

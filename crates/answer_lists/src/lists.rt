@@ -10,16 +10,14 @@ pub type Ranks = Seq<(u32, u32)>;
 /// A row of pairs of ids.
 pub type Pairs = Seq<(u32, u32)>;
 
-/// Puts the ids in order, the least first. An id that stands there twice stays there twice. It takes no
-/// memory, and time as a sort does.
+/// Sorts the ids, the least first. Equal ids are all kept. It takes no memory, and time as a sort does.
 pub fn arrange_ids(ids: &mut Vec<u32>)
     ensures { ids.new.items ≡ sorted_by nat_lt ids.old.items }
 {
     ids.sort_unstable();
 }
 
-/// Puts the pairs in order, by the first part and then by the second. It takes no memory, and time as a
-/// sort does.
+/// Sorts the pairs, by the first part and then by the second. It takes no memory, and time as a sort does.
 pub fn arrange(pairs: &mut Vec<(u32, u32)>)
     ensures { pairs.new.items ≡ sorted_by goes_before pairs.old.items }
 {

@@ -35,7 +35,7 @@ pub command_of-words : (space : Space) (line : List ℕ) (words : List (List ℕ
 unfolding command_of
 command_of-words space line words answer e h = subst (λ (ws : List (List ℕ)). ReadsCommand answer (command_in space ws)) (sym e) h
 
--- how many words there are before a word that has none behind it
+-- how many words there are if this word is the last
 pub length-word : (line word rest : List ℕ) → slice_split (λ x. x == 32) line ≡ word ∷ slice_split (λ x. x == 32) rest → length (slice_split (λ x. x == 32) line) ≡ length (slice_split (λ x. x == 32) rest) + 1
 length-word line word rest e = let l : length (slice_split (λ x. x == 32) line) ≡ suc (length (slice_split (λ x. x == 32) rest)) = ap length e in omega (arith, l)
 

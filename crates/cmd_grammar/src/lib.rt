@@ -1,7 +1,7 @@
 //! The command language: lines as commands, and replies as lines.
 //!
-//! A command's words stand one space apart. They are tested in this order: the command's name and the
-//! number of words, the collection, the id or the radius, the object. The first that fails is named.
+//! A command's words are one space apart. They are tested in this order: the command's name and the number of words,
+//! the collection, the id or the radius, the object. The first that fails is named.
 #![tactic(auto)]
 
 mod laws;

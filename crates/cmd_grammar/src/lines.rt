@@ -34,8 +34,8 @@ pub enum LineError {
 ///
 /// # Errors
 ///
-/// `Bad` with what fails first, from the left, where the line is no command. `Memory` where memory
-/// runs out.
+/// `Bad` with what fails first, from the left, if the line is no command. `Memory` if memory runs
+/// out.
 pub fn read_command(alloc: Global, space: &Space, line: &[u8]) -> Result<Command, LineError>
     requires { IsTrue (fits space.now) }
     ensures exact { ReadsCommand result (command_of space.now line.now) }
@@ -270,7 +270,7 @@ fn ranks_or(word: &[u8]) -> Result<u32, LineError>
     Ok(k as u32)
 }
 
-/// The number that the word spells, where it is at most `most`, or what failed.
+/// The number that the word spells, if it is at most `most`, or what failed.
 fn number_or(failed: What, word: &[u8], most: u64) -> Result<u64, LineError>
     ensures exact { ReadsCommand result (ok_or (number_within most word.now) failed) }
     ensures small { IfOk result (λ n. n ≤ most) }
@@ -294,7 +294,7 @@ fn object_or(alloc: Global, space: &Space, word: &[u8]) -> Result<Bytes, LineErr
     }
 }
 
-/// The words of a line, where they are two, three or four.
+/// The words of a line, if there are two, three or four.
 #[derive(Clone, Copy)]
 enum Words<'a> {
     Two {

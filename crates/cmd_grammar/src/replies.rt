@@ -12,14 +12,13 @@ use object_text::write_object;
 use spb_defs::{Reply, What};
 use spb_edge::{Bytes, Memory};
 
-/// Puts the reply's line at the end of `text`, with its LF. An object that the reply holds is one of the
-/// space.
+/// Appends the reply's line to `text`, with its LF. An object that the reply holds is one of the space.
 ///
 /// It takes memory for the text alone.
 ///
 /// # Errors
 ///
-/// `Memory` where memory runs out. Then the text may end amid the line.
+/// `Memory` if memory runs out. Then the text may end in the middle of the line.
 #[tactic(auto, unfolding(spb_defs::specs::ReplyText::reply_text))]
 pub fn write_reply(space: &Space, reply: &Reply, text: &mut Bytes) -> Result<(), Memory>
     requires fits { IsTrue (fits space.now) }
@@ -43,7 +42,7 @@ pub fn write_reply(space: &Space, reply: &Reply, text: &mut Bytes) -> Result<(),
     }
 }
 
-/// Puts the answer to a look-up that found the object at the end of `text`.
+/// Appends the answer to a look-up that found the object to `text`.
 fn write_found(space: &Space, object: &[u8], text: &mut Bytes) -> Result<(), Memory>
     requires fits { IsTrue (fits space.now) }
     requires object { IsValid space.now object.now }
@@ -54,7 +53,7 @@ fn write_found(space: &Space, object: &[u8], text: &mut Bytes) -> Result<(), Mem
     text.append(b"\n")
 }
 
-/// Puts the answer to a count at the end of `text`.
+/// Appends the answer to a count to `text`.
 fn write_count(many: u32, text: &mut Bytes) -> Result<(), Memory>
     ensures { OnOk result (text.new ≡ text.old ++ codes "count " ++ decimal many ++ 10 ∷ []) }
 {
@@ -75,7 +74,7 @@ fn bad(failed: What) -> &'static [u8]
     }
 }
 
-/// Puts the answer to a range at the end of `text`.
+/// Appends the answer to a range to `text`.
 fn write_range(ids: &[u32], evals: u64, sure: u64, text: &mut Bytes) -> Result<(), Memory>
     ensures { OnOk result (text.new ≡ text.old ++ range_text ids.now evals sure ++ 10 ∷ []) }
 {
@@ -84,7 +83,7 @@ fn write_range(ids: &[u32], evals: u64, sure: u64, text: &mut Bytes) -> Result<(
     text.append(b"\n")
 }
 
-/// Puts the answer to a question for the nearest at the end of `text`.
+/// Appends the answer to a question for the nearest to `text`.
 fn write_near(rows: &[(u32, u32)], evals: u64, text: &mut Bytes) -> Result<(), Memory>
     ensures { OnOk result (text.new ≡ text.old ++ near_text rows.now evals ++ 10 ∷ []) }
 {
@@ -95,7 +94,7 @@ fn write_near(rows: &[(u32, u32)], evals: u64, text: &mut Bytes) -> Result<(), M
     text.append(b"\n")
 }
 
-/// Puts the answer to a join at the end of `text`.
+/// Appends the answer to a join to `text`.
 fn write_join(pairs: &[(u32, u32)], evals: u64, sure: u64, text: &mut Bytes) -> Result<(), Memory>
     ensures { OnOk result (text.new ≡ text.old ++ join_text pairs.now evals sure ++ 10 ∷ []) }
 {
@@ -104,7 +103,7 @@ fn write_join(pairs: &[(u32, u32)], evals: u64, sure: u64, text: &mut Bytes) -> 
     text.append(b"\n")
 }
 
-/// Puts what stands before the ids or the pairs at the end of `text`.
+/// Appends what comes before the ids or the pairs to `text`.
 fn write_counts(
     name: &[u8],
     many: u64,
@@ -120,7 +119,7 @@ fn write_counts(
     text.append(b":")
 }
 
-/// Puts the ranks at the end of `text`, each behind a space as its id and its distance.
+/// Appends the ranks to `text`, each after a space, as its id and its distance.
 fn write_ranks(ranks: &[(u32, u32)], text: &mut Bytes) -> Result<(), Memory>
     ensures { OnOk result (text.new ≡ text.old ++ flat_map rank_text ranks.now) }
 {
@@ -132,7 +131,7 @@ fn write_ranks(ranks: &[(u32, u32)], text: &mut Bytes) -> Result<(), Memory>
     Ok(())
 }
 
-/// Puts the pairs at the end of `text`, each behind a space.
+/// Appends the pairs to `text`, each after a space.
 fn write_pairs(pairs: &[(u32, u32)], text: &mut Bytes) -> Result<(), Memory>
     ensures { OnOk result (text.new ≡ text.old ++ flat_map pair_text pairs.now) }
 {
@@ -144,7 +143,7 @@ fn write_pairs(pairs: &[(u32, u32)], text: &mut Bytes) -> Result<(), Memory>
     Ok(())
 }
 
-/// Puts the ids at the end of `text`, each behind a space.
+/// Appends the ids to `text`, each after a space.
 fn write_ids(ids: &[u32], text: &mut Bytes) -> Result<(), Memory>
     ensures { OnOk result (text.new ≡ text.old ++ flat_map id_text ids.now) }
 {
@@ -154,7 +153,7 @@ fn write_ids(ids: &[u32], text: &mut Bytes) -> Result<(), Memory>
     Ok(())
 }
 
-/// Puts the name and the number at the end of `text`. The digits stand on the stack before.
+/// Appends the name and the number to `text`. The digits are made on the stack first.
 fn write_number(name: &[u8], n: u64, text: &mut Bytes) -> Result<(), Memory>
     ensures { OnOk result (text.new ≡ text.old ++ name.now ++ decimal n) }
 {

@@ -12,7 +12,7 @@ use spb_defs::{MemorySetup, PIVOT_LIMIT};
 /// `mem sets UNIVERSE MOST` for sets of at most `MOST` numbers below `UNIVERSE`. One more word may follow,
 /// the number of pivots, 0 to 8; without it there are none.
 ///
-/// It is nothing if the words ask for something else or nothing, or if no such space fits. It takes no memory.
+/// It is None if the words ask for something else or for nothing, or if no such space fits. It takes no memory.
 pub fn read_words(words: &[String]) -> Option<MemorySetup>
     ensures exact { result ≡ memory_asked (asked_of (map string_bytes words.now)) }
     ensures fits { IfSome result (λ setup. IsTrue (fits setup.space)) }
@@ -37,7 +37,7 @@ pub fn read_words(words: &[String]) -> Option<MemorySetup>
     }
 }
 
-/// The store that the words ask for, where one word stands behind the kind.
+/// The store that the words ask for, if one word follows the kind.
 #[tactic(auto, unfolding(spb_defs::specs::Words::asked_of))]
 fn one_word(name: &[u8], kind: &[u8], first: &[u8]) -> Option<MemorySetup>
     ensures exact { result ≡ memory_asked (asked_of (name.now ∷ kind.now ∷ first.now ∷ [])) }
@@ -51,7 +51,7 @@ fn one_word(name: &[u8], kind: &[u8], first: &[u8]) -> Option<MemorySetup>
     }
 }
 
-/// The store that the words ask for, where two words stand behind the kind.
+/// The store that the words ask for, if two words follow the kind.
 #[tactic(auto, unfolding(spb_defs::specs::Words::asked_of))]
 fn two_words(name: &[u8], kind: &[u8], first: &[u8], second: &[u8]) -> Option<MemorySetup>
     ensures exact { result ≡ memory_asked (asked_of (name.now ∷ kind.now ∷ first.now ∷ second.now ∷ [])) }
@@ -68,7 +68,7 @@ fn two_words(name: &[u8], kind: &[u8], first: &[u8], second: &[u8]) -> Option<Me
     }
 }
 
-/// The store that the words ask for, where three words stand behind the kind.
+/// The store that the words ask for, if three words follow the kind.
 #[tactic(auto, unfolding(spb_defs::specs::Words::asked_of))]
 fn three_words(
     name: &[u8],
@@ -149,7 +149,7 @@ fn with_two(kind: &[u8], first: &[u8], second: &[u8]) -> Option<Space>
     None
 }
 
-/// The space, where its numbers are in range.
+/// The space, if its numbers are in range.
 fn fitting(space: Space) -> Option<Space>
     ensures exact { result ≡ checked_space space }
     ensures fits { IfSome result (λ space. IsTrue (fits space)) }

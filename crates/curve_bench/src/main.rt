@@ -25,7 +25,7 @@ fn main(rt: HostRuntime) -> io::Result<()> {
     Ok(())
 }
 
-/// The sum that a line asks for, where its words are known.
+/// The sum that a line asks for, if its words are known.
 fn sum(alloc: Global, line: &str) -> Result<Option<u64>, AllocError> {
     let words: Vec<&str> = line.split(' ').collect(alloc)?;
     let &[curve, n, asked, rounds] = words.as_slice() else {

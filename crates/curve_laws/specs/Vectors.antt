@@ -1,10 +1,10 @@
--- The order of vectors, coordinate by coordinate, and the corners of the box round two of them.
+-- The order of vectors, coordinate by coordinate, and the corners of the box around two of them.
 use Rattle.std.specs.Prelude.{◌≡◌, ℕ, ◌≤◌, ◌↔◌, min, max, List, [], ◌∷◌, length}
 use Rattle.std.specs.List.{AllZip}
 use Rattle.std.proofs.Common.{refl, suc, ap, ◌∙◌, arith}
 use Rattle.std.proofs.lemmas.List.Elements.{length_all_zip}
 
--- as many coordinates, and none of the first vector is past that of the second
+-- as many coordinates, and none of the first vector exceeds that of the second
 abbrev pub IsUpTo : List ℕ → List ℕ → Type 0
 IsUpTo v w = AllZip (λ x y. x ≤ y) v w
 

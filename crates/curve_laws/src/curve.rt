@@ -49,8 +49,8 @@ pub trait Curve: Copy {
 /// The laws of any curve, as a contract: the call does nothing.
 ///
 /// Its cells and keys belong to each other, one to one. All cells have as many coordinates as the
-/// curve has axes, each vector that is nowhere past a cell is a cell, and so are the least and the
-/// greatest values of each coordinate of two cells.
+/// curve has axes, each vector that exceeds a cell in no coordinate is a cell, and so are the least
+/// and the greatest values of each coordinate of two cells.
 pub fn obeys_laws<C: Curve>(curve: &C)
     ensures one_to_one { IsCurve (C.axes curve.now) (C.bits curve.now) (C.key_of curve.now) (C.cell_of curve.now) }
     ensures axes { (v : List ℕ) → IsCell (C.axes curve.now) (C.bits curve.now) v → length v ≡ C.axes curve.now }

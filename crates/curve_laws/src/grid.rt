@@ -40,7 +40,7 @@ impl Grid {
     }
 }
 
-// Whether each coordinate has at most so many bits.
+// Whether each coordinate has at most `bits` bits.
 fn are_below(coordinates: &[u32], bits: u8) -> bool
     requires some { 0 < bits }
     requires few { bits ≤ 32 }
@@ -51,7 +51,7 @@ fn are_below(coordinates: &[u32], bits: u8) -> bool
         .all(|coordinate| is_below(*coordinate, bits))
 }
 
-// Whether the coordinate has at most so many bits.
+// Whether the coordinate has at most `bits` bits.
 fn is_below(coordinate: u32, bits: u8) -> bool
     requires some { 0 < bits }
     requires few { bits ≤ 32 }

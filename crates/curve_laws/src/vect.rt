@@ -74,8 +74,8 @@ impl Eq for Vect {
 /// The laws of the order of vectors, as a contract: the call does nothing.
 ///
 /// The order is that of each coordinate. The low corner of two vectors, the least values of each
-/// coordinate, is the greatest vector that is nowhere past either; the high corner, the greatest
-/// values, the least one that both are nowhere past.
+/// coordinate, is the greatest vector that exceeds neither in any coordinate; the high corner, the
+/// greatest values, is the least one that neither exceeds.
 pub fn vectors_are_ordered()
     ensures reflexive { (v : List ℕ) → IsUpTo v v }
     ensures transitive { (u v w : List ℕ) → IsUpTo u v → IsUpTo v w → IsUpTo u w }

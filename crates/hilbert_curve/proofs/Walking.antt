@@ -1,4 +1,4 @@
--- A turn of each of the three loops: what was walked and what is left keep their sum.
+-- One iteration of each of the three loops: what was walked and what is left keep their sum.
 use Rattle.std.proofs.Common.{◌≡◌, ℕ, zero, suc, ◌+◌, ◌-◌, ◌*◌, ◌/◌, ◌%◌, ◌^◌, ◌<◌, ◌≤◌, List, get_or, map, Bool, ◌==◌, if◌then◌else◌, bit_and, Option, Some, refl, sym, ap, subst, ◌∙◌, arith}
 use Rattle.std.specs.Int.{bit_at}
 use Rattle.std.specs.List.{range_with_len}

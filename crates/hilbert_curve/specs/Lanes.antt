@@ -36,7 +36,7 @@ pub lanes-double : (s n : ℕ) (f g : ℕ → ℕ) (c : ℕ) → lanes s n (λ j
 lanes-double s zero f g c = omega arith
 lanes-double s (suc n) f g c = omega (arith, lanes-double s n f g c)
 
--- lane j is read by a shift, a rest and what is above
+-- lane j is read by a shift, a remainder and what is above
 pub lane_read : (s n : ℕ) (f : ℕ → ℕ) (j : ℕ) → ((i : ℕ) → i < n → f i < 2 ^ s) → j < n → lanes s n f / 2 ^ (s * j) % 2 ^ s ≡ f j
 lane_read s zero f j h l = absurd (omega arith)
 lane_read s (suc n) f j h l =

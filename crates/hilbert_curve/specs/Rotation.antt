@@ -50,7 +50,7 @@ bit_at-moved_down m r x i l h =
     ∙ ap (λ a. a % 2) (shr-shr x m (i - m))
     ∙ ap (bit_at x) (omega arith)
 
--- a number below the divisor is its own rest
+-- a number below the divisor is its own remainder
 pub small_mod : (a b : ℕ) → a < b → a % b ≡ a
 small_mod a b h = let e : a ≡ 0 * b + a = omega arith in ap (λ k. k % b) e ∙ mod-mul-add 0 b a h
 

@@ -1,4 +1,5 @@
--- From one key to the next: the two cells differ by one on one axis, by induction over the groups from the written rows alone.
+-- From one key to the next: the two cells differ by one on one axis, by induction over the groups from the written rows
+-- alone.
 use Rattle.std.proofs.Common.{◌≡◌, ◌≢◌, ℕ, zero, suc, ◌+◌, ◌-◌, ◌*◌, ◌/◌, ◌%◌, ◌^◌, ◌<◌, ◌≤◌, ◌⊎◌, inl, inr, refl, sym, ap, subst, ◌∙◌, Bool, true, false, ◌==◌, if◌then◌else◌, Option, Some, arith}
 use Rattle.std.specs.Int.{bit_at}
 use Rattle.std.specs.Int.Bits.{bit_xor, xor_lt, xor_assoc, xor_self, xor_zero_r, xor_zero_l}

@@ -43,7 +43,8 @@ is_inner n w =
 abbrev pub is_last : ℕ → ℕ → Bool
 is_last n w = (gray w == 2 ^ (n - 1)) && (bit_xor (entry w) (2 ^ direction n w) == 2 ^ (n - 1))
 
--- what is checked for row w of the tables for n: the columns are those of the formulas, and the formulas do what the curve needs
+-- what is checked for row w of the tables for n: the columns are those of the formulas, and the formulas do what the
+-- curve needs
 abbrev pub is_row : ℕ → ℕ → ℕ → ℕ → ℕ → Bool
 is_row n w g e d =
     (g == gray w) && (e == entry w) && (d == direction n w)

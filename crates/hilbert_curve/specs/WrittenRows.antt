@@ -1,4 +1,5 @@
--- The rows that the code's macros write: each is computed to be a row of the tables, and that is what the laws of the curve rest on.
+-- The rows that the code's macros write: each is computed to be a row of the tables, and that is what the laws of the
+-- curve rest on.
 use Rattle.std.specs.Prelude.{◌≡◌, ℕ, zero, suc, ◌+◌, ◌-◌, ◌^◌, ◌<◌, ◌≤◌, List, length}
 use Rattle.std.proofs.Common.{refl, inl, inr, arith}
 use Rattle.std.proofs.lemmas.Bool.{cases_lt}
@@ -26,7 +27,7 @@ use Rattle.hilbert_curve.specs.declared.rows.fn.rows_of_8_from_160.TheConstants.
 use Rattle.hilbert_curve.specs.declared.rows.fn.rows_of_8_from_192.TheConstants.{ROWS as table_8_from_192}
 use Rattle.hilbert_curve.specs.declared.rows.fn.rows_of_8_from_224.TheConstants.{ROWS as table_8_from_224}
 
--- the rows for n axes from a number on, so many of them
+-- the rows for n axes from a number on, this many of them
 abbrev Rows : ℕ → ℕ → ℕ → Type 0
 Rows n first count = (w : ℕ) → first ≤ w → w < first + count → IsRow n w
 

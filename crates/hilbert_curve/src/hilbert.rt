@@ -11,7 +11,7 @@ use curve_laws::{Curve, Grid, Vect};
 
 /// The Hilbert curve over `n` axes of `b` bits each.
 ///
-/// It has cells and keys where `n` is 1 to 8, `b` is 1 to 32 and `n * b` at most 64. A cell has `n`
+/// It has cells and keys if `n` is 1 to 8, `b` is 1 to 32 and `n * b` at most 64. A cell has `n`
 /// coordinates below `2^b`, and a key is a number below `2^(n*b)`.
 #[derive(Clone, Copy, Debug, PartialEq, Eq)]
 pub struct Hilbert {

@@ -55,7 +55,7 @@ pub(crate) fn bits_at<const N: usize>(packed: u64, t: u8) -> u8
     gathered::<N>(packed >> t & ONES[N])
 }
 
-// the group whose bits stand alone in their lanes
+// the group whose bits are alone in their lanes
 fn gathered<const N: usize>(apart: u64) -> u8
     requires axes { (0 < N) × (N ≤ 8) }
     ensures bits { (x : ℕ) → x < 2 ^ N → apart ≡ lanes (64 / N) N (bit_at x) → result ≡ x }

@@ -4,7 +4,7 @@ ghost use Rattle.std.specs.Prelude.{◌<◌, ◌≤◌};
 use super::*;
 use curve_laws::{Curve, Vect, obeys_laws};
 
-// the cell of a key, and the key of that cell, where the curve has them
+// the cell of a key, and the key of that cell, if the curve has them
 fn there_and_back<C: Curve>(curve: &C, key: u64) -> Option<(Vect, u64)> {
     obeys_laws(curve);
     if !curve.has_key(key) {
@@ -17,7 +17,7 @@ fn there_and_back<C: Curve>(curve: &C, key: u64) -> Option<(Vect, u64)> {
     Some((cell, curve.key(&cell)))
 }
 
-// the step from a key, where the curve has it
+// the step from a key, if the curve has it
 fn step(curve: Hilbert, key: u64) -> Option<Option<(u8, bool)>> {
     if curve.has_key(key) {
         Some(curve.step_axis(key))

@@ -4,15 +4,15 @@ use Rattle.metric_laws.specs.Objects.{Object, Distance}
 
 -- on the admitted objects the distance is a metric
 pub record IsDistance (admitted : Object → Type 0) (dist : Distance) : Type 0 where
-  -- exactly equal objects stand at distance 0
+  -- objects are at distance 0 exactly if they are equal
   pub zero_iff_equal : (a b : Object) → admitted a → admitted b → (dist a b ≡ 0) ↔ (a ≡ b)
-  -- there and back are as far
+  -- the distance is symmetric
   pub symmetric : (a b : Object) → admitted a → admitted b → dist a b ≡ dist b a
-  -- a way round by a third object is never shorter
+  -- the triangle inequality
   pub triangle : (a b c : Object) → admitted a → admitted b → admitted c → dist a c ≤ dist a b + dist b c
 
--- on the admitted objects the distance is a metric that is never past the top
+-- on the admitted objects the distance is a metric that never exceeds the top
 pub record IsMetric (admitted : Object → Type 0) (dist : Distance) (top : ℕ) : Type 0 where
   pub distance : IsDistance admitted dist
-  -- no distance is past the top
+  -- no distance exceeds the top
   pub bounded : (a b : Object) → admitted a → admitted b → dist a b ≤ top

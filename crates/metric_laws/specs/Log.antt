@@ -1,4 +1,4 @@
--- What was measured, where it is told.
+-- Which distances were computed, if that is known.
 use Rattle.std.specs.Prelude.{◌≡◌, ℕ, List, ◌++◌, map, Option, Some, None}
 use Rattle.std.specs.List.Sorted.{IsPermutation}
 use Rattle.metric_laws.specs.Objects.{Object}
@@ -7,8 +7,8 @@ use Rattle.metric_laws.specs.Objects.{Object}
 abbrev pub MeasuredPair : Type 0
 MeasuredPair = List ℕ × List ℕ
 
--- Between two states of a log these pairs were measured: a log that is told now was told before, and has grown by
--- them. One that isn't told tells nothing from then on.
+-- Between two states of a log these pairs were measured: a log that is known now was known before, and has grown by
+-- them. Of one that isn't known now, nothing is said.
 abbrev pub LogExtends : Option (List MeasuredPair) → Option (List MeasuredPair) → List MeasuredPair → Type 0
 LogExtends before None pairs = Unit {0}
 LogExtends None (Some now) pairs = ⊥

@@ -3,13 +3,13 @@ use Rattle.std.specs.Prelude.{ℕ, List, [], Option, Some, None, Vec}
 use Rattle.metric_laws.specs.Log.{MeasuredPair}
 use Rattle.metric_laws.specs.declared.ruler.Traced.{Traced}
 
--- the metric, how many distances it measured, and which, while that is told
+-- the metric, how many distances it measured, and which, while that is known
 pub record Trace (M : Type 0) : Type 0 where
   pub metric : M
   pub count : ℕ
   pub log : Option (List MeasuredPair)
 
--- the log as a list: nothing where it isn't told
+-- the log as a list, empty if it isn't known
 abbrev pub known_log : Option (List MeasuredPair) → List MeasuredPair
 known_log None = []
 known_log (Some log) = log

@@ -1,4 +1,4 @@
--- What the distances of two objects to a third one, a pivot, tell of their distance.
+-- How the distances of two objects to a pivot bound their distance.
 use Rattle.std.specs.Prelude.{ℕ, ◌+◌, ◌≤◌, List}
 use Rattle.std.specs.Int.{abs_diff}
 use Rattle.metric_laws.specs.Objects.{Object, Distance}

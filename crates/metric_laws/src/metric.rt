@@ -6,8 +6,8 @@ ghost use Rattle.metric_laws.specs.Pivots.{BoundByPivots};
 /// A metric on byte strings, whose laws are proved for each type that implements it.
 ///
 /// A metric admits some byte strings, its objects, and gives any two of them a distance, a whole
-/// number of at most `top`. Objects at distance 0 are equal, the distance is the same both ways,
-/// and a way round by a third object is never shorter.
+/// number of at most `top`. Objects are at distance 0 exactly if they are equal, the distance is
+/// symmetric, and the triangle inequality holds.
 pub trait Metric: Copy {
     // the objects that the metric measures
     ghost admitted: { Self → List ℕ → Type 0 };
@@ -28,7 +28,7 @@ pub trait Metric: Copy {
         requires second { admitted self.now b.now }
         ensures { result ≡ dist self.now a.now b.now };
 
-    /// A bound that no distance of two admitted objects is past.
+    /// An upper bound of the distances of admitted objects.
     fn top(&self) -> u32
         ensures { result ≡ top self.now };
 

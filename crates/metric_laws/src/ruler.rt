@@ -10,7 +10,7 @@ use std::alloc::Global;
 #[cfg(test)]
 mod tests;
 
-/// What measures distances, counts them, and may tell a log of them to contracts.
+/// What measures distances and counts them; contracts may know a log of them.
 ///
 /// Its kind says which objects it measures and what their distance is; no call changes it.
 pub trait Ruler {
@@ -28,7 +28,7 @@ pub trait Ruler {
     // how many distances were measured
     ghost count: { Self → ℕ };
 
-    // which distances were measured, in order, where it is told
+    // which distances were measured, in order, if that is known
     ghost log: { Self → Option (List MeasuredPair) };
 
     /// Whether the ruler measures the object.
@@ -57,7 +57,7 @@ pub struct Counted<M: Metric> {
 }
 
 impl<M: Metric> Counted<M> {
-    /// A ruler by the metric, at 0.
+    /// A ruler by the metric, whose count is 0.
     pub fn new(metric: M) -> Counted<M>
         ensures { result ≡ record { metric = metric; count = 0 } }
     {
@@ -111,8 +111,8 @@ impl<M: Metric> Traced<M> {
     ghost use Rattle.std.specs.Prelude.{◌≡◌, [], Some};
     ghost use Rattle.metric_laws.specs.Meters.{known_log, trace_of};
 
-    /// A ruler by the metric that has measured nothing. It takes no memory yet, and `measure` as much as
-    /// copies of the two objects.
+    /// A ruler by the metric that has measured nothing. It takes no memory yet; `measure` takes as much as copies of
+    /// the two objects.
     pub fn new(alloc: Global, metric: M) -> Traced<M>
         ensures { trace_of result ≡ record { metric = metric; count = 0; log = Some [] } }
     {
@@ -165,7 +165,7 @@ impl<M: Metric> Ruler for Traced<M> {
     ghost ruler_laws = { λ k. (M.metric_laws k).distance };
 }
 
-/// Puts copies of the two at the end.
+/// Appends copies of the two.
 fn noted(alloc: Global, pairs: &mut Vec<(Bytes, Bytes)>, a: &[u8], b: &[u8]) -> Result<(), Memory>
     ensures { OnOk result (pairs.new.items ≡ pairs.old.items ++ (a.now, b.now) ∷ []) }
 {

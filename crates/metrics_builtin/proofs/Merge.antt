@@ -1,4 +1,4 @@
--- A step of the merge as the code makes it: past the lesser number, and past both where they are equal.
+-- A step of the merge as the code makes it: past the lesser number, and past both if they are equal.
 use Rattle.std.proofs.Common.{◌≡◌, ℕ, ◌+◌, ◌*◌, ◌<◌, ◌≤◌, ◌==◌, inl, inr, nat_le, List, length, get_or, drop, arith}
 use Rattle.std.specs.Int.{from_bool}
 use Rattle.std.proofs.lemmas.Bool.{cases_eq, cases_lt}
@@ -19,7 +19,7 @@ steps x y passed others common p o e = record {
   equal = λ h. (grind (arith, nat_tests), grind (arith, nat_tests), grind (arith, nat_tests));
 }
 
--- each goes on by one at most, and both do where the numbers are common
+-- each advances by one at most, and both do if the numbers are common
 pub record Counted (passed others common : ℕ) : Type 0 where
   pub one : passed ≤ 1
   pub one_other : others ≤ 1

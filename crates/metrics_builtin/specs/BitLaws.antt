@@ -9,7 +9,7 @@ use Rattle.std.proofs.lemmas.Bool.Decides.{nat_tests}
 use Rattle.std.proofs.lemmas.List.Sums.{sum_by-cons}
 use Rattle.metrics_builtin.specs.Space.{IsBitCount, bit_count}
 
--- 1 where 2 ^ b is not past n
+-- 1 if 2 ^ b doesn't exceed n
 abbrev held : ℕ → ℕ → ℕ
 held n b = cond (nat_le (2 ^ b) n) 1 0
 

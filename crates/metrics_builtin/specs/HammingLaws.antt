@@ -7,7 +7,7 @@ use Rattle.std.proofs.lemmas.List.Sums.{sum_by-cons}
 use Rattle.metric_laws.specs.Laws.{IsMetric}
 use Rattle.metrics_builtin.specs.Strings.{IsString, hamming_dist}
 
--- 1 where the two differ
+-- 1 if the two differ
 abbrev pub differs : ℕ → ℕ → ℕ
 differs x y = cond (not (x == y)) 1 0
 
@@ -48,12 +48,12 @@ one_triangle x y z = grind (arith, nat_tests)
 one_le : (x y : ℕ) → differs x y ≤ 1
 one_le x y = grind (arith, nat_tests)
 
--- a string differs from itself nowhere
+-- a string is at distance 0 from itself
 pub hamming_dist-self : (xs : List ℕ) → hamming_dist xs xs ≡ 0
 hamming_dist-self [] = hamming_dist-nil []
 hamming_dist-self (x ∷ xs) = omega (arith, hamming_dist-cons x x xs xs, one_self x, hamming_dist-self xs)
 
--- strings that differ nowhere are equal
+-- strings at distance 0 are equal
 pub hamming_dist-zero : (xs ys : List ℕ) → length xs ≡ length ys → hamming_dist xs ys ≡ 0 → xs ≡ ys
 hamming_dist-zero [] [] e z = refl
 hamming_dist-zero [] (y ∷ ys) e z = absurd (omega arith)
@@ -63,7 +63,7 @@ hamming_dist-zero (x ∷ xs) (y ∷ ys) e z =
     let rest : xs ≡ ys = hamming_dist-zero xs ys (omega arith) (omega (arith, hamming_dist-cons x y xs ys)) in
     cc
 
--- there and back are as far
+-- the distance is symmetric
 pub hamming_dist-comm : (xs ys : List ℕ) → length xs ≡ length ys → hamming_dist xs ys ≡ hamming_dist ys xs
 hamming_dist-comm [] [] e = refl
 hamming_dist-comm [] (y ∷ ys) e = absurd (omega arith)
@@ -71,7 +71,7 @@ hamming_dist-comm (x ∷ xs) [] e = absurd (omega arith)
 hamming_dist-comm (x ∷ xs) (y ∷ ys) e =
     omega (arith, hamming_dist-cons x y xs ys, hamming_dist-cons y x ys xs, one_comm x y, hamming_dist-comm xs ys (omega arith))
 
--- a way round is never shorter
+-- the triangle inequality
 pub hamming_dist-triangle : (xs ys zs : List ℕ) → length xs ≡ length ys → length ys ≡ length zs →
     hamming_dist xs zs ≤ hamming_dist xs ys + hamming_dist ys zs
 hamming_dist-triangle [] ys zs e f = omega (arith, hamming_dist-nil zs)

@@ -31,12 +31,12 @@ l1_dist-drop xs ys i h k =
 pub l1_dist-end : (xs ys : List ℕ) (i : ℕ) → length xs ≤ i → l1_dist (drop i xs) (drop i ys) ≡ 0
 l1_dist-end xs ys i h = ap (λ left. l1_dist left (drop i ys)) (drop_of_length-le xs h) ∙ l1_dist-nil (drop i ys)
 
--- a list differs from itself by nothing
+-- a list is at distance 0 from itself
 pub l1_dist-self : (xs : List ℕ) → l1_dist xs xs ≡ 0
 l1_dist-self [] = l1_dist-nil []
 l1_dist-self (x ∷ xs) = omega (arith, l1_dist-cons x x xs xs, l1_dist-self xs)
 
--- lists that differ by nothing are equal
+-- lists at distance 0 are equal
 pub l1_dist-zero : (xs ys : List ℕ) → length xs ≡ length ys → l1_dist xs ys ≡ 0 → xs ≡ ys
 l1_dist-zero [] [] e z = refl
 l1_dist-zero [] (y ∷ ys) e z = absurd (omega arith)
@@ -46,7 +46,7 @@ l1_dist-zero (x ∷ xs) (y ∷ ys) e z =
     let rest : xs ≡ ys = l1_dist-zero xs ys (omega arith) (omega (arith, l1_dist-cons x y xs ys)) in
     cc
 
--- there and back are as far
+-- the distance is symmetric
 pub l1_dist-comm : (xs ys : List ℕ) → length xs ≡ length ys → l1_dist xs ys ≡ l1_dist ys xs
 l1_dist-comm [] [] e = refl
 l1_dist-comm [] (y ∷ ys) e = absurd (omega arith)
@@ -54,7 +54,7 @@ l1_dist-comm (x ∷ xs) [] e = absurd (omega arith)
 l1_dist-comm (x ∷ xs) (y ∷ ys) e =
     omega (arith, l1_dist-cons x y xs ys, l1_dist-cons y x ys xs, l1_dist-comm xs ys (omega arith))
 
--- a way round is never shorter
+-- the triangle inequality
 pub l1_dist-triangle : (xs ys zs : List ℕ) → length xs ≡ length ys → length ys ≡ length zs →
     l1_dist xs zs ≤ l1_dist xs ys + l1_dist ys zs
 l1_dist-triangle [] ys zs e f = omega (arith, l1_dist-nil zs)

@@ -28,12 +28,12 @@ linf_dist-drop xs ys i h k =
 pub linf_dist-end : (xs ys : List ℕ) (i : ℕ) → length xs ≤ i → linf_dist (drop i xs) (drop i ys) ≡ 0
 linf_dist-end xs ys i h = ap (λ left. linf_dist left (drop i ys)) (drop_of_length-le xs h) ∙ linf_dist-nil (drop i ys)
 
--- a list differs from itself by nothing
+-- a list is at distance 0 from itself
 pub linf_dist-self : (xs : List ℕ) → linf_dist xs xs ≡ 0
 linf_dist-self [] = linf_dist-nil []
 linf_dist-self (x ∷ xs) = omega (arith, linf_dist-cons x x xs xs, linf_dist-self xs)
 
--- lists that differ by nothing are equal
+-- lists at distance 0 are equal
 pub linf_dist-zero : (xs ys : List ℕ) → length xs ≡ length ys → linf_dist xs ys ≡ 0 → xs ≡ ys
 linf_dist-zero [] [] e z = refl
 linf_dist-zero [] (y ∷ ys) e z = absurd (omega arith)
@@ -43,7 +43,7 @@ linf_dist-zero (x ∷ xs) (y ∷ ys) e z =
     let rest : xs ≡ ys = linf_dist-zero xs ys (omega arith) (omega (arith, linf_dist-cons x y xs ys)) in
     cc
 
--- there and back are as far
+-- the distance is symmetric
 pub linf_dist-comm : (xs ys : List ℕ) → length xs ≡ length ys → linf_dist xs ys ≡ linf_dist ys xs
 linf_dist-comm [] [] e = refl
 linf_dist-comm [] (y ∷ ys) e = absurd (omega arith)
@@ -51,7 +51,7 @@ linf_dist-comm (x ∷ xs) [] e = absurd (omega arith)
 linf_dist-comm (x ∷ xs) (y ∷ ys) e =
     omega (arith, linf_dist-cons x y xs ys, linf_dist-cons y x ys xs, linf_dist-comm xs ys (omega arith))
 
--- a way round is never shorter
+-- the triangle inequality
 pub linf_dist-triangle : (xs ys zs : List ℕ) → length xs ≡ length ys → length ys ≡ length zs →
     linf_dist xs zs ≤ linf_dist xs ys + linf_dist ys zs
 linf_dist-triangle [] ys zs e f = omega (arith, linf_dist-nil zs)

@@ -32,12 +32,12 @@ count-le : (p q r : ℕ → Bool) → ((z : ℕ) → one_if (p z) ≤ one_if (q 
 count-le p q r h [] = omega arith
 count-le p q r h (z ∷ zs) = omega (arith, count-cons p z zs, count-cons q z zs, count-cons r z zs, h z, count-le p q r h zs)
 
--- as many where the tests are alike
+-- as many if the tests agree
 count-same : (p q : ℕ → Bool) → ((z : ℕ) → p z ≡ q z) → (zs : List ℕ) → count_by p zs ≡ count_by q zs
 count-same p q h [] = refl
 count-same p q h (z ∷ zs) = omega (arith, count-cons p z zs, count-cons q z zs, ap one_if (h z), count-same p q h zs)
 
--- a number stands in a range once or nowhere
+-- a number is in a range once or not at all
 
 test_same : (x : ℕ) → one_if (x == x) ≡ 1
 test_same x = grind (arith, nat_tests)
@@ -70,7 +70,7 @@ count-once x a (suc n) = elim (cases_eq x a) [
       omega (arith, count-cons (λ z. x == z) a (range_with_len (a + 1) n), test_other x a other, count-once x (a + 1) n)
 ]
 
--- where none pass, each fails
+-- if none pass, each fails
 none_passes : (p : ℕ → Bool) (a n z : ℕ) → count_by p (range_with_len a n) ≡ 0 → a ≤ z → z < a + n → one_if (p z) ≡ 0
 none_passes p a zero z e low high = absurd (omega arith)
 none_passes p a (suc n) z e low high = elim (cases_eq z a) [
@@ -98,7 +98,7 @@ is_element-first x xs = let same : (x == x) ≡ true = grind (arith, nat_tests) 
 is_element-other : (x e : ℕ) (xs : List ℕ) → (x ≡ e → ⊥) → is_element (x ∷ xs) e ≡ is_element xs e
 is_element-other x e xs other = let test : (x == e) ≡ false = grind (arith, nat_tests) in ap (λ b. b || is_element xs e) test
 
--- ---- rising lists
+-- ---- ascending lists
 
 pub rising-tail : (x : ℕ) (xs : List ℕ) → IsStrictlyIncreasing (x ∷ xs) → IsStrictlyIncreasing xs
 rising-tail x xs h = λ k inside.
@@ -159,13 +159,13 @@ exactly_zero true false e = absurd (omega arith)
 exactly_zero false true e = absurd (omega arith)
 exactly_zero false false e = refl
 
--- there and back are as far
+-- the distance is symmetric
 pub set_dist-comm : (universe : ℕ) (xs ys : List ℕ) → set_dist universe xs ys ≡ set_dist universe ys xs
 unfolding set_dist
 set_dist-comm universe xs ys =
     count-same (λ e. exactly_one (is_element xs e) (is_element ys e)) (λ e. exactly_one (is_element ys e) (is_element xs e)) (λ e. exactly_comm (is_element xs e) (is_element ys e)) (range_with_len 0 universe)
 
--- a way round is never shorter
+-- the triangle inequality
 pub set_dist-triangle : (universe : ℕ) (xs ys zs : List ℕ) → set_dist universe xs zs ≤ set_dist universe xs ys + set_dist universe ys zs
 unfolding set_dist
 set_dist-triangle universe xs ys zs =
@@ -176,7 +176,7 @@ none_of : (zs : List ℕ) → count_by (λ e. false) zs ≡ 0
 none_of [] = refl
 none_of (z ∷ zs) = omega (arith, count-cons (λ e. false) z zs, none_of zs)
 
--- a set differs from itself by nothing
+-- a set is at distance 0 from itself
 pub set_dist-self : (universe : ℕ) (xs : List ℕ) → set_dist universe xs xs ≡ 0
 unfolding set_dist
 set_dist-self universe xs =
@@ -226,7 +226,7 @@ same_rest x y xs ys same above above_y h e = elim (cases_eq x e) [
   | inr other ↦ sym (is_element-other x e xs other) ∙ h e ∙ is_element-other y e ys (λ here. other (same ∙ here))
 ]
 
--- rising lists with the same elements are equal
+-- ascending lists with the same elements are equal
 same_elements : (xs ys : List ℕ) → IsStrictlyIncreasing xs → IsStrictlyIncreasing ys → ((e : ℕ) → is_element xs e ≡ is_element ys e) → xs ≡ ys
 same_elements [] [] r s h = refl
 same_elements [] (y ∷ ys) r s h = absurd (cc (h y, is_element-first y ys))
@@ -241,7 +241,7 @@ same_elements (x ∷ xs) (y ∷ ys) r s h =
       | inr other ↦ absurd (first_differs x y xs ys above above_y h other)
     ]
 
--- sets that differ by nothing are equal
+-- sets at distance 0 are equal
 pub set_dist-zero : (universe : ℕ) (xs ys : List ℕ) → IsStrictlyIncreasing xs → IsStrictlyIncreasing ys →
     All (λ x. x < universe) xs → All (λ y. y < universe) ys → set_dist universe xs ys ≡ 0 → xs ≡ ys
 unfolding set_dist
@@ -297,7 +297,7 @@ set_dist-nil universe (x ∷ xs) r v =
     let below : x < universe = v 0 0 (omega arith) in
     omega (arith, set_dist-one universe x xs [] below (is_element-below x xs (rising-above x xs r)) refl, set_dist-nil universe xs (rising-tail x xs r) (All-tail (λ k. k < universe) x xs v))
 
--- what is left of two lists, where the first number left of one is the lesser or both are equal
+-- what is left of two lists, if the first number left of one is the lesser or both are equal
 pub record Merges (universe i j : ℕ) (xs ys : List ℕ) : Type 0 where
   pub less : get_or xs i 0 < get_or ys j 0 → set_dist universe (drop i xs) (drop j ys) ≡ 1 + set_dist universe (drop (i + 1) xs) (drop j ys)
   pub greater : get_or ys j 0 < get_or xs i 0 → set_dist universe (drop i xs) (drop j ys) ≡ 1 + set_dist universe (drop i xs) (drop (j + 1) ys)
@@ -317,7 +317,7 @@ merges_cons universe x y xs ys r s inside inside_y =
           (set_dist-both universe x xs ys (is_element-below x xs above) (is_element-below x ys (subst (λ z. All (λ k. z < k) ys) (sym e) above_y)));
     }
 
--- a step of a merge of rising lists
+-- a step of a merge of ascending lists
 pub merges : (universe i j : ℕ) (xs ys : List ℕ) → IsStrictlyIncreasing xs → IsStrictlyIncreasing ys → All (λ x. x < universe) xs → All (λ y. y < universe) ys →
     i < length xs → j < length ys → Merges universe i j xs ys
 merges universe i j xs ys r s v w h k =
@@ -333,7 +333,7 @@ merges universe i j xs ys r s v w h k =
       equal = λ e. cc (rest, rest_y, front.equal e);
     }
 
--- where one list is at its end, what is left of the other counts
+-- if one list is at its end, what is left of the other counts
 pub merges_end : (universe i j : ℕ) (xs ys : List ℕ) → IsStrictlyIncreasing xs → IsStrictlyIncreasing ys → All (λ x. x < universe) xs → All (λ y. y < universe) ys →
     i ≤ length xs → j ≤ length ys → (i < length xs → j < length ys → ⊥) → set_dist universe (drop i xs) (drop j ys) + i + j ≡ length xs + length ys
 merges_end universe i j xs ys r s v w h k end = elim (cases_lt i (length xs)) [
@@ -354,7 +354,7 @@ pub components-IsSubset : (universe most : ℕ) (object : List ℕ) → universe
 components-IsSubset universe most object small v =
     ap components v.spelling ∙ components-object_of_components v.elements (λ k d h. let low : get_or v.elements k d < universe = v.set.within k d h in omega arith)
 
--- the components of a subset: rising, within the universe, few
+-- the components of a subset: ascending, within the universe, few
 pub elements-IsSubset : (universe most : ℕ) (object : List ℕ) → universe < 2 ^ 32 → IsSubset universe most object → IsRisingWithin universe most (components object)
 elements-IsSubset universe most object small v =
     subst (IsRisingWithin universe most) (sym (components-IsSubset universe most object small v)) v.set
@@ -363,7 +363,7 @@ elements-IsSubset universe most object small v =
 pub length-IsSubset : (universe most : ℕ) (object : List ℕ) → (v : IsSubset universe most object) → length object ≡ 4 * length v.elements
 length-IsSubset universe most object v = ap length v.spelling ∙ length-object_of_components v.elements
 
--- rising components within the universe, and no byte besides, are a subset
+-- ascending components within the universe, and no byte besides, are a subset
 pub IsSubset-components : (universe most : ℕ) (object : List ℕ) (n : ℕ) → length object ≡ 4 * n → ((i : ℕ) → get_or object i 0 < 256) →
     IsRisingWithin universe most (components object) → IsSubset universe most object
 IsSubset-components universe most object n e bytes set = record {

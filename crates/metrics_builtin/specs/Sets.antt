@@ -1,17 +1,17 @@
--- A set of numbers as an object: its elements rising, each a number in four bytes, the highest byte
--- first.
+-- A set of numbers as an object: its elements ascending, each a number in four bytes, the highest
+-- byte first.
 use Rattle.std.specs.Prelude.{◌≡◌, ℕ, ◌<◌, ◌≤◌, ◌==◌, Bool, true, false, not, List, length, All, count_by}
 use Rattle.std.specs.List.{list_any, range_with_len}
 use Rattle.std.specs.List.Sorted.{IsStrictlyIncreasing}
 use Rattle.metrics_builtin.specs.Vectors.{object_of_components}
 
--- at most `most` rising numbers below `universe`
+-- at most `most` ascending numbers below `universe`
 pub record IsRisingWithin (universe most : ℕ) (elements : List ℕ) : Type 0 where
   pub rising : IsStrictlyIncreasing elements
   pub within : All (λ x. x < universe) elements
   pub few : length elements ≤ most
 
--- the object spells at most `most` rising elements below `universe`
+-- the object spells at most `most` ascending elements below `universe`
 pub record IsSubset (universe most : ℕ) (object : List ℕ) : Type 0 where
   pub elements : List ℕ
   pub set : IsRisingWithin universe most elements

@@ -7,7 +7,7 @@ use Rattle.metrics_builtin.specs.Vectors.{components, IsVector, l1_dist, linf_di
 use Rattle.metrics_builtin.specs.Strings.{IsString, hamming_dist}
 use Rattle.metrics_builtin.specs.Sets.{IsSubset, set_dist}
 
--- the space's numbers are in range, and no distance of it is past 32 bits
+-- the space's numbers are in range, and no distance of it exceeds 32 bits
 abbrev pub fits : Space → Bool
 fits (L1 dim most) = nat_le 1 dim && nat_le dim 30 && nat_le 1 most && nat_le (dim * most) 4294967295
 fits (LInf dim most) = nat_le 1 dim && nat_le dim 30 && nat_le 1 most && nat_le most 4294967295
@@ -41,7 +41,7 @@ pub record IsBitCount (n count : ℕ) : Type 0 where
   pub enough : n < 2 ^ count
   pub least : (other : ℕ) → 1 ≤ other → n < 2 ^ other → count ≤ other
 
--- that number for what is in 32 bits: one more than how many powers of two from 2 on are not past it
+-- that number for what is in 32 bits: one more than how many powers of two from 2 on don't exceed it
 unfoldable pub bit_count : ℕ → ℕ
 bit_count n = 1 + count_by (λ b. nat_le (2 ^ b) n) (range_with_len 1 31)
 

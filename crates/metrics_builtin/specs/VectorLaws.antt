@@ -14,7 +14,7 @@ pub object_of_components-cons : (x : ℕ) (xs : List ℕ) → object_of_componen
 unfolding object_of_components
 object_of_components-cons x xs = refl
 
--- what is spelled later stands behind
+-- what is spelled later comes after
 pub object_of_components-append : (xs ys : List ℕ) → object_of_components (xs ++ ys) ≡ object_of_components xs ++ object_of_components ys
 unfolding object_of_components
 object_of_components-append xs ys = flat_map-append (to_be_bytes w32) xs ys
@@ -63,7 +63,7 @@ length-components-div (a ∷ []) = refl
 length-components-div (a ∷ b ∷ []) = refl
 length-components-div (a ∷ b ∷ c ∷ []) = refl
 
--- behind the first four bytes stands the rest
+-- the rest follows the first four bytes
 past_four : (a b c d : ℕ) (rest : List ℕ) (i j : ℕ) → j ≡ i + 4 →
     get_or (a ∷ b ∷ c ∷ d ∷ rest) j 0 ≡ get_or rest i 0
 past_four a b c d rest i j e =
@@ -74,7 +74,7 @@ past_four a b c d rest i j e =
 abbrev pub four_from : List ℕ → ℕ → List ℕ
 four_from object at = get_or object at 0 ∷ get_or object (at + 1) 0 ∷ get_or object (at + 2) 0 ∷ get_or object (at + 3) 0 ∷ []
 
--- behind the first four bytes stand the rest's
+-- the bytes of the rest follow the first four
 four_from-cons : (a b c d : ℕ) (rest : List ℕ) (i : ℕ) →
     four_from (a ∷ b ∷ c ∷ d ∷ rest) (4 * suc i) ≡ four_from rest (4 * i)
 four_from-cons a b c d rest i =

@@ -23,9 +23,9 @@ pub enum Space {
     LInf { dim: u32, most: u32 },
     /// Strings of `len` bytes. The distance is the number of places in which they differ.
     Hamming { len: u32 },
-    /// Sets of at most `most` numbers below `universe`, an object's bytes being its elements one after
-    /// the other, rising, each in four bytes, the highest first. The distance is the number of
-    /// elements that are in exactly one of the two.
+    /// Sets of at most `most` numbers below `universe`, an object's bytes being its elements one after the other,
+    /// ascending, each in four bytes, the highest first. The distance is the number of elements that are in exactly one
+    /// of the two.
     Sets { universe: u32, most: u32 },
 }
 

@@ -46,7 +46,7 @@ impl Metric for SetDiff {
     }
 }
 
-/// Whether the object has at most `most` rising elements below `universe`.
+/// Whether the object has at most `most` ascending elements below `universe`.
 fn is_subset(universe: u32, most: u32, object: &[u8]) -> bool
     ensures { IsTrue result ↔ IsSubset universe most object.now }
 {
@@ -71,8 +71,8 @@ fn is_subset(universe: u32, most: u32, object: &[u8]) -> bool
     true
 }
 
-/// How many elements are in exactly one of two objects of rising elements. Each step of the merge goes
-/// past the lesser element, and past both where they are equal.
+/// How many elements are in exactly one of two objects of ascending elements. Each step of the merge goes past the
+/// lesser element, and past both if they are equal.
 fn count_of_one_sided(a: &[u8], b: &[u8]) -> usize
     ensures { (universe most : ℕ) → IsRisingWithin universe most (components a.now) → IsRisingWithin universe most (components b.now)
         → result ≡ set_dist universe (components a.now) (components b.now) }

@@ -3,7 +3,7 @@ ghost use Rattle.std.specs.Prelude.{◌≡◌, ◌+◌, ◌-◌, ◌^◌, ◌<�
 use super::*;
 use metric_laws::{Counted, Metric, Ruler, Traced, bounds_by_pivots, obeys_laws};
 
-// the distance of two objects, where the metric admits both
+// the distance of two objects, if the metric admits both
 fn measured<M: Metric>(metric: &M, a: &[u8], b: &[u8]) -> Option<u32> {
     obeys_laws(metric);
     bounds_by_pivots(metric);
@@ -251,7 +251,7 @@ fn bits_of_distances(rt: HostRuntime) {
     }
 }
 
-// the distance by the ruler, where it admits both
+// the distance by the ruler, if it admits both
 fn ruled<R: Ruler>(ruler: &mut R, a: &[u8], b: &[u8]) -> Option<u32>
     requires room { R.count ruler.old < 2 ^ 64 - 1 }
     ensures count { R.count ruler.new ≤ R.count ruler.old + 1 }

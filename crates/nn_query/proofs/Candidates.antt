@@ -1,4 +1,4 @@
--- Rows listed as candidates, and waiting.
+-- Rows as candidates, and as items of the queue.
 use Rattle.std.proofs.Common.{◌≡◌, ℕ, ◌+◌, ◌≤◌, ◌<◌, false, List, [], ◌∷◌, ◌++◌, map, length, take, get_or, suc, refl, sym, ap, subst, ◌∙◌, arith}
 use Rattle.std.specs.Prelude.{◌==◌, ◌&&◌, ◌||◌, nat_lt, sum_by, All, AllPairs, ◌≢◌, IsPermutation}
 use Rattle.std.specs.List.{AllByRecursion, flat_map}
@@ -96,7 +96,7 @@ apart dist pivots query rows ids i j d less below same =
     ids i j none less inside
     (ap (λ (e : Entry). e.0) (sym (get_or-map entry_of rows i none d (omega (arith, less, inside)))) ∙ ap (λ (b : ℕ × ℕ). b.1) same ∙ ap (λ (e : Entry). e.0) (get_or-map entry_of rows j none d inside))
 
--- ---- rows that wait
+-- ---- rows in the queue
 
 candidates_under-rows : (cs : List Candidate) → flat_map (candidates_under empty_nodes) (map as_waiting cs) ≡ cs
 candidates_under-rows [] = refl

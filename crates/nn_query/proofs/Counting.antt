@@ -55,7 +55,7 @@ pub count_before-none : (r : Pair) (xs : List Pair) → AllByRecursion (λ (y : 
 count_before-none r [] all = refl
 count_before-none r (x ∷ xs) all = count_before-other r x xs all.0 ∙ count_before-none r xs all.1
 
--- what doesn't go before an item, none behind it does
+-- if an item doesn't go before the rank, none after it does
 pub further : (r y : Pair) (ys : List Pair) → goes_before y r ≡ false → AllByRecursion (λ (z : Pair). goes_before z y ≡ false) ys → AllByRecursion (λ (z : Pair). goes_before z r ≡ false) ys
 further r y [] h all = tt
 further r y (z ∷ zs) h all = (order.chain z y r all.0 h, further r y zs h all.1)
@@ -75,7 +75,7 @@ count_before-more r s (x ∷ xs) h = step (goes_before x r) refl (count_before-m
   step true at rest = later (goes_before x s) refl at rest
   step false at rest = let a = count_before-other r x xs at in let b = count_before-cons s x xs in omega (arith, a, b, rest)
 
--- ---- the arranged list
+-- ---- the sorted list
 
 pub sorted_by-permuted : (xs ys : List Pair) → IsPermutation xs ys → sorted_by goes_before ys ≡ sorted_by goes_before xs
 sorted_by-permuted xs ys moved = sym (laws.sorted_by-same goes_before laws.pair_order xs ys moved)
@@ -96,7 +96,7 @@ count_before-sorted_by r xs = laws.sorted_by-count goes_before (λ other. goes_b
 
 -- ---- the first k
 
--- what is behind k others isn't of the first k
+-- what comes after k others isn't among the first k
 take-with_inserted : (r : Pair) (k : ℕ) (zs : List Pair) → InOrder zs → k ≤ count_before r zs → take k (with_inserted goes_before r zs) ≡ take k zs
 take-with_inserted r zero zs up many = refl
 take-with_inserted r (suc k) [] up many = absurd (omega (arith, many))
@@ -122,7 +122,7 @@ once (suc k) y ys = ap (λ zs. y ∷ zs) (shorter k ys) where
   shorter (suc k) [] = refl
   shorter (suc k) (y ∷ ys) = ap (λ zs. y ∷ zs) (shorter k ys)
 
--- what isn't of the first k needn't be kept
+-- what isn't among the first k needn't be kept
 pub with_inserted-take : (r : Pair) (k : ℕ) (zs : List Pair) → take k (with_inserted goes_before r (take k zs)) ≡ take k (with_inserted goes_before r zs)
 with_inserted-take r zero zs = refl
 with_inserted-take r (suc k) [] = refl
@@ -137,7 +137,7 @@ both_none k a b e f = ap (nat_le (suc k)) (e ∙ sym f)
 one_less : (k a c : ℕ) → c ≡ 1 + a → nat_le (suc k) c ≡ nat_le k a
 one_less k a c e = grind (arith, nat_tests)
 
--- whether k go before is told by the first k
+-- the first k decide whether k go before
 pub count_before-take : (r : Pair) (k : ℕ) (zs : List Pair) → InOrder zs → nat_le k (count_before r (take k zs)) ≡ nat_le k (count_before r zs)
 count_before-take r zero zs up = le-zero (count_before r (take 0 zs)) ∙ sym (le-zero (count_before r zs)) where
   le-zero : (n : ℕ) → nat_le 0 n ≡ true
@@ -183,7 +183,7 @@ past-is r (suc k) (y ∷ ys) up = past-is r k ys up.1 ∙ step (goes_before y r)
 
 -- ---- a heap of the first k
 
--- one more, where there is room
+-- one more, if there is room
 pub put-few : (k : ℕ) (r : Pair) (old new : List Pair) → IsPermutation (r ∷ old) new → length new ≤ k → sorted_by goes_before new ≡ take k (with_inserted goes_before r (sorted_by goes_before old))
 unfolding sorted_by
 put-few k r old new moved few =
@@ -191,7 +191,7 @@ put-few k r old new moved few =
     let long = laws.sorted_by-length goes_before new in
     is ∙ sym (ap (take k) (sym is) ∙ take_all k (sorted_by goes_before new) (omega (arith, long, few)) ∙ is)
 
--- one more that is shut out changes nothing
+-- one more that is pruned changes nothing
 pub put-shut : (k : ℕ) (r : Pair) (xs : List Pair) → length xs ≤ k → k ≤ count_before r (sorted_by goes_before xs) → sorted_by goes_before xs ≡ take k (with_inserted goes_before r (sorted_by goes_before xs))
 put-shut k r xs few many =
     let long = laws.sorted_by-length goes_before xs in
@@ -211,7 +211,7 @@ put-many k r greatest old amid new first second below long =
     behind [] all = tt
     behind (x ∷ xs) all = ((all.0, tt), behind xs all.1)
 
--- while there is room, none is shut out
+-- while there is room, none is pruned
 pub open-few : (k : ℕ) (r : Pair) (xs : List Pair) → length xs < k → false ≡ nat_le k (count_before r (sorted_by goes_before xs))
 open-few k r xs few =
     let a = count_before-sorted_by r xs in
@@ -227,7 +227,7 @@ all-count_before greatest r (x ∷ xs) is below = step (goes_before x r) refl (a
   step true at rest = let a = count_before-one r x xs at in omega (arith, a, rest)
   step false at rest = absurd (differ (sym is ∙ order.chain greatest x r below.0 at))
 
--- once there is no room, the greatest tells
+-- once there is no room, the greatest decides
 pub open-many : (k : ℕ) (greatest r : Pair) (xs : List Pair) → length xs ≡ k → 0 < k → greatest ≡ slice_index_or xs 0 greatest → AllByRecursion (λ (y : Pair). goes_before greatest y ≡ false) xs
     → goes_before greatest r ≡ nat_le k (count_before r (sorted_by goes_before xs))
 open-many k greatest r [] long some at below = absurd (omega (arith, long, some))

@@ -33,7 +33,7 @@ module _ (dist : List ℕ → List ℕ → ℕ) (query : List ℕ) where
   not_behind-is pivots None row = refl
   not_behind-is pivots (Some last) row = refl
 
-  -- whether a row is behind is told by how many ranks go before its bound
+  -- how many ranks go before its bound decides whether a row is in reach
   told : (pivots : List (List ℕ)) (rows : List Entry) (k : ℕ) (row : Entry) → 1 ≤ k → is_in_reach dist pivots query (kth_rank dist rows query k) row ≡ not (nat_le k (count_before (rank_bound dist pivots query row) (ranks_of dist rows query)))
   told pivots rows k row some =
       let b = rank_bound dist pivots query row in

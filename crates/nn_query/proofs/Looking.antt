@@ -65,7 +65,7 @@ module _ (dist : List ℕ → List ℕ → ℕ) (object_at : ℕ → List ℕ) (
       ∙ sym (map-append (λ (o : List ℕ). (query, o)) (objects_at object_at (take i cs)) (object_at (get_or cs i c).place ∷ []))
       ∙ ap (each_with query) (sym (map-append (λ (x : Candidate). object_at x.place) (take i cs) (get_or cs i c ∷ [])) ∙ ap (objects_at object_at) (sym (take_more cs i c within)))
 
-  -- ---- what the ranks that were seen tell
+  -- ---- what the ranks that were seen decide
 
   module _ (cs : List Candidate) (i : ℕ) (lower : AllByRecursion (λ (c : Candidate). goes_before (rank_at c) (bound_rank c) ≡ false) (drop i cs)) where
     abbrev pub seen : List Pair
@@ -90,7 +90,7 @@ module _ (dist : List ℕ → List ℕ → ℕ) (object_at : ℕ → List ℕ) (
         let parts = count_before-append b seen (ranks_at (drop i cs)) in
         let all = ap (count_before b) whole in omega (arith, none, parts, all)
 
-    -- whether k of them go before is told by the first k
+    -- the first k decide whether k of them go before
     pub told : (k : ℕ) (least : List Pair) → least ≡ take k (sorted_by goes_before seen) → (b : Pair) → nat_le k (count_before b least) ≡ nat_le k (count_before b seen)
     told k least is b = ap (λ rs. nat_le k (count_before b rs)) is ∙ count_before-take b k (sorted_by goes_before seen) (in_order-sorted_by seen) ∙ ap (nat_le k) (count_before-sorted_by b seen)
 

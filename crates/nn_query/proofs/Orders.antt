@@ -1,4 +1,4 @@
--- The order of what waits, and the order of objects.
+-- The order of the queue, and the order of objects.
 use Rattle.std.proofs.Common.{◌≡◌, ℕ, ◌<◌, ◌==◌, Bool, true, false, cond, ◌&&◌, ◌||◌, List, [], ◌∷◌, map, get_or, refl, sym, ap, ◌∙◌, inl, inr, true≢false, arith}
 use Rattle.std.specs.Prelude.{nat_lt}
 use Rattle.std.specs.List.{AllByRecursion}
@@ -144,7 +144,7 @@ sorted-rises cs sorted i j d le below =
 pub sorted_by-rises : (cs : List Candidate) → IsSortedByBound (sorted_by candidate_is_before cs)
 sorted_by-rises cs = sorted-rises (sorted_by candidate_is_before cs) (sorted_by-sorted candidate_is_before part_order cs)
 
--- ---- what waits, beside objects
+-- ---- nodes and objects in the queue
 
 greater : (a b c x y z : ℕ) → x < a → tested a b c x y z ≡ false
 greater a b c x y z h = grind (arith, nat_tests)
@@ -218,7 +218,7 @@ less-or x y h = elim (cases_Bool (goes_before x y)) [
   | inr stays ↦ absurd (h stays)
 ]
 
--- what isn't shut out goes before what is
+-- what isn't pruned goes before what is
 pub open-first : (k : ℕ) (ranks : List Pair) (f w : Waiting) → count_before (least_rank f) ranks < k → IsPruned k ranks w → is_visited_before w f ≡ false
 open-first k ranks f w room shut =
     let less : goes_before (least_rank f) (least_rank w) ≡ true = less-or (least_rank f) (least_rank w) (λ h. let a = count_before-more (least_rank w) (least_rank f) ranks h in omega (arith, a, room, shut)) in

@@ -1,4 +1,4 @@
--- One turn of looking at what waits: a node or an object was taken out.
+-- One iteration of the search: a node or an object was taken out of the queue.
 use Rattle.std.proofs.Common.{◌≡◌, ℕ, ◌+◌, ◌≤◌, ◌<◌, ◌==◌, ◌&&◌, ◌||◌, Bool, true, false, List, [], ◌∷◌, ◌++◌, length, take, drop, get_or, refl, sym, ap, subst, ◌∙◌, append_assoc, append-nil, arith}
 use Rattle.std.specs.Prelude.{nat_le, nat_lt, count_by, sum_by, if◌then◌else◌, All, IsPermutation}
 use Rattle.std.specs.List.{AllByRecursion, flat_map}
@@ -81,10 +81,10 @@ module _ (nodes : Nodes) where
       let b = sum_by-cons (weight_of nodes) f new in
       let w : weight_of nodes f ≡ 1 = ap (weight_kind nodes) is in omega (arith, a, b, w)
 
--- ---- what is known between two turns
+-- ---- what is known between two iterations
 
 -- n candidates were measured, and the least ranks are the first of theirs. What is left is under the items and under
--- those that were left out of the queue, which the ranks that were seen shut out. So many nodes of all in reach were
+-- those that were left out of the queue, which the ranks that were seen prune. This many nodes of all in reach were
 -- opened.
 pub record Looked (dist : List ℕ → List ℕ → ℕ) (object_at : ℕ → List ℕ) (query : List ℕ) (nodes : Nodes) (is_sound : ℕ → ℕ → Type 0) (k : ℕ) (cs : List Candidate) (n : ℕ) (least : List Pair) (items : List Waiting) (opened all : ℕ) : Type 0 where
   pub within : n ≤ length cs
@@ -135,7 +135,7 @@ module _ (dist : List ℕ → List ℕ → ℕ) (object_at : ℕ → List ℕ) (
     lower : AllByRecursion (λ (c : Candidate). goes_before (rank_at dist object_at query c) (bound_rank c) ≡ false) (drop n cs)
     lower = all-drop _ n cs low
 
-    -- ---- all that is left is shut out
+    -- ---- all that is left is pruned
 
     keys-shut : (w : Waiting) → (IsLeast nodes is_sound w) × (IsPruned k seen w) → AllByRecursion (λ (c : Candidate). k ≤ count_before (bound_rank c) seen) (candidates_under nodes w)
     keys-shut w h =
@@ -164,7 +164,7 @@ module _ (dist : List ℕ → List ℕ → ℕ) (object_at : ℕ → List ℕ) (
         let same : count_by in_reach (bounds_of ws) ≡ count_by in_reach (bounds_of (items ++ looked.aside)) = sum_by-IsPermutation _ _ _ (permutation-flat_map (bounds_under nodes) _ ws moved) in
         let counted = looked.counted in omega (arith, none, same, counted)
 
-    -- nothing waits: what is left was left out of the queue
+    -- the queue is empty: what is left was left out of it
     nothing-waits : items ≡ [] → items ++ looked.aside ≡ looked.aside
     nothing-waits none = ap (λ ws. ws ++ looked.aside) none
 
@@ -189,7 +189,7 @@ module _ (dist : List ℕ → List ℕ → ℕ) (object_at : ℕ → List ℕ) (
       told-by : nat_le k (count_before (least_rank f) least) ≡ nat_le k (count_before (least_rank f) seen)
       told-by = told dist object_at query cs n lower k least looked.first (least_rank f)
 
-      -- it is shut out, and so are all the others
+      -- it is pruned, and so are all the others
       all-shut : true ≡ nat_le k (count_before (least_rank f) least) → AllByRecursion (IsPruned k seen) (f ∷ rest)
       all-shut shut =
           let this : IsPruned k seen f = shut-is k _ (shut ∙ told-by) in
@@ -201,7 +201,7 @@ module _ (dist : List ℕ → List ℕ → ℕ) (object_at : ℕ → List ℕ) (
       pub opened-shut : true ≡ nat_le k (count_before (least_rank f) least) → opened ≡ all
       opened-shut shut = none-left (f ∷ rest) moved-on (all-shut shut)
 
-      -- it isn't shut out, and goes first of all that are left
+      -- it isn't pruned, and goes first of all that are left
       module _ (fits : false ≡ nat_le k (count_before (least_rank f) least)) where
         room : count_before (least_rank f) seen < k
         room = open-is k _ (fits ∙ told-by)

@@ -1,4 +1,4 @@
--- What waits in a queue.
+-- The items of a queue.
 use Rattle.std.specs.Prelude.{List, map}
 use Rattle.std.specs.BinaryHeap.{heap_items}
 use Rattle.std.specs.declared.cmp.Reverse.{Reverse}

@@ -18,6 +18,6 @@ candidates_for asked place (row ∷ rows) = candidate_for asked place row ∷ ca
 abbrev pub object_at_place : List vector_row.Row → ℕ → List ℕ
 object_at_place rows place = (slice_index_or rows place (record { id = 0; object = []; vect = [] })).object
 
--- nothing stands in the nodes over rows
+-- the nodes over rows are empty
 abbrev pub empty_nodes : Nodes
 empty_nodes = record { objects = λ level place. []; bounds = λ level place. []; weight = λ level. 1 }

@@ -1,4 +1,4 @@
--- What waits to be looked at, nodes and objects, and the order in which it is looked at.
+-- The queue of a search: nodes and objects, in the order in which they are looked at.
 use Rattle.std.specs.Prelude.{◌≡◌, ℕ, ◌≤◌, ◌<◌, Bool, false, List, [], ◌∷◌, length, count_by}
 use Rattle.std.specs.List.{slice_index_or, flat_map}
 use Rattle.std.specs.Ordering.{is_lt, nat_cmp, ordering_then}
@@ -25,7 +25,7 @@ waiting_cmp a b = ordering_then (nat_cmp a.bound b.bound) (ordering_then (kind_c
 abbrev pub is_visited_before : Waiting → Waiting → Bool
 is_visited_before a b = is_lt (waiting_cmp a b)
 
--- the least id under it, as far as its kind tells
+-- the least id under it, by its kind
 abbrev pub least_id : Kind → ℕ
 least_id (Node level) = 0
 least_id (Object id) = id
@@ -38,19 +38,19 @@ least_rank w = (w.bound, least_id w.kind)
 abbrev pub count_before : Rank → List Rank → ℕ
 count_before rank ranks = count_by (λ other. goes_before other rank) ranks
 
--- so many of the ranks go before all that is under it
+-- it is pruned: this many of the ranks go before all that is under it
 abbrev pub IsPruned : ℕ → List Rank → Waiting → Type 0
 IsPruned k ranks w = k ≤ count_before (least_rank w) ranks
 
--- ---- the objects under what waits
+-- ---- the objects under the items
 
--- an object that may be measured: the distance that it is apart at least, its id and its place
+-- an object that may be measured: the lower bound of its distance, its id and its place
 pub record Candidate : Type 0 where
   pub bound : ℕ
   pub id : ℕ
   pub place : ℕ
 
--- the candidate as it waits
+-- the candidate as an item of the queue
 abbrev pub as_waiting : Candidate → Waiting
 as_waiting c = record { bound = c.bound; kind = Object c.id; place = c.place }
 
@@ -62,8 +62,8 @@ bound_rank c = (c.bound, c.id)
 abbrev pub candidate_is_before : Candidate → Candidate → Bool
 candidate_is_before a b = is_lt (ordering_then (nat_cmp a.bound b.bound) (ordering_then (nat_cmp a.id b.id) (nat_cmp a.place b.place)))
 
--- What is under each node, by its level and its place: the objects, and the bounds of the nodes, at every depth.
--- A node at a level weighs more than all that stands in it.
+-- What is under each node, by its level and its place: the objects, and the bounds of the nodes, at every depth. A node
+-- at a level weighs more than all that is in it.
 pub record Nodes : Type 0 where
   pub objects : ℕ → ℕ → List Candidate
   pub bounds : ℕ → ℕ → List ℕ
@@ -73,7 +73,7 @@ abbrev pub candidates_of_kind : Nodes → ℕ → ℕ → Kind → List Candidat
 candidates_of_kind nodes bound place (Node level) = nodes.objects level place
 candidates_of_kind nodes bound place (Object id) = record { bound = bound; id = id; place = place } ∷ []
 
--- the objects under what waits: one stands for itself
+-- the objects under an item of the queue: an object is under itself
 abbrev pub candidates_under : Nodes → Waiting → List Candidate
 candidates_under nodes w = candidates_of_kind nodes w.bound w.place w.kind
 
@@ -81,7 +81,7 @@ abbrev pub bounds_kind : Nodes → ℕ → ℕ → Kind → List ℕ
 bounds_kind nodes bound place (Node level) = bound ∷ nodes.bounds level place
 bounds_kind nodes bound place (Object id) = []
 
--- the bounds of the nodes from what waits on
+-- the bounds of the nodes from an item on
 abbrev pub bounds_under : Nodes → Waiting → List ℕ
 bounds_under nodes w = bounds_kind nodes w.bound w.place w.kind
 
@@ -93,7 +93,7 @@ weight_kind nodes (Object id) = 1
 abbrev pub weight_of : Nodes → Waiting → ℕ
 weight_of nodes w = weight_kind nodes w.kind
 
--- the objects under all that wait, in the order in which they are measured
+-- the objects under all items, in the order in which they are measured
 abbrev pub queued_candidates : Nodes → List Waiting → List Candidate
 queued_candidates nodes items = sorted_by candidate_is_before (flat_map (candidates_under nodes) items)
 

@@ -9,7 +9,7 @@ use Rattle.nn_query.specs.declared.queue.Kind.TheVariants.{Node, Object}
 use Rattle.nn_query.specs.declared.queue.Waiting.{Waiting}
 use Rattle.nn_query.specs.Queue.{Candidate, bound_rank, count_before, IsPruned, Nodes, candidates_under, bounds_under, weight_of, queued_candidates}
 
--- the id and the object of a candidate, where the objects stand at their places
+-- the id and the object of a candidate, with each object at its place
 abbrev pub entry_at : (ℕ → List ℕ) → Candidate → Entry
 entry_at object_at c = (c.id, object_at c.place)
 
@@ -19,7 +19,7 @@ entries_at object_at cs = map (entry_at object_at) cs
 abbrev pub objects_at : (ℕ → List ℕ) → List Candidate → List (List ℕ)
 objects_at object_at cs = map (λ c. object_at c.place) cs
 
--- ---- what waits
+-- ---- the items of the queue
 
 -- a node may be opened, by its level and place, and an object may be measured, by its place
 abbrev pub CanVisitKind : (ℕ → ℕ → Type 0) → (ℕ → Type 0) → ℕ → Kind → Type 0
@@ -33,7 +33,7 @@ abbrev pub IsSoundKind : (ℕ → ℕ → Type 0) → ℕ → Kind → Type 0
 IsSoundKind is_sound place (Node level) = is_sound level place
 IsSoundKind is_sound place (Object id) = Unit {0}
 
--- nothing under it has a lesser bound, and that holds of each that stands in it
+-- nothing under it has a lesser bound, and that holds of each item in it
 pub record IsLeast (nodes : Nodes) (is_sound : ℕ → ℕ → Type 0) (w : Waiting) : Type 0 where
   pub objects : AllByRecursion (λ (c : Candidate). w.bound ≤ c.bound) (candidates_under nodes w)
   pub bounds : AllByRecursion (λ (b : ℕ). w.bound ≤ b) (bounds_under nodes w)
@@ -44,8 +44,7 @@ pub record AreBounds (dist : Distance) (object_at : ℕ → List ℕ) (query : L
   pub lower : AllByRecursion (λ (c : Candidate). goes_before (dist query (object_at c.place), c.id) (bound_rank c) ≡ false) (flat_map (candidates_under nodes) items)
   pub least : AllByRecursion (IsLeast nodes is_sound) items
 
--- The node of this level at this place was opened: rows stand for it, and were put in, but for some that k of
--- the ranks shut out.
+-- The node of this level at this place was opened: its rows were put in, but for some that k of the ranks prune.
 pub record Expands (nodes : Nodes) (is_sound : ℕ → ℕ → Type 0) (can_visit : Waiting → Type 0) (k : ℕ) (ranks : List Rank) (level place : ℕ) (old new : List Waiting) : Type 0 where
   pub rows : List Waiting
   pub objects : IsPermutation (nodes.objects level place) (flat_map (candidates_under nodes) rows)

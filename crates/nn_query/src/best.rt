@@ -48,8 +48,8 @@ impl Best {
         }
     }
 
-    /// Puts the rank in its place, and drops the greatest if they are too many then. It takes the time of a
-    /// step in a heap, and less for a rank that is none of the least.
+    /// Adds the rank, and drops the greatest if there are then too many. It takes the time of a step in a heap, and
+    /// less for a rank that is none of the least.
     pub(crate) fn put(&mut self, rank: (u32, u32)) -> Result<(), Memory>
         ensures most { self.new.most ≡ self.old.most }
         ensures ranks { OnOk result (least_of self.new ≡ take self.old.most (with_inserted goes_before rank (least_of self.old))) }

@@ -53,8 +53,8 @@ pub(crate) trait Hierarchy {
         ensures count { OnOk result (R.count ruler.new ≡ R.count ruler.old + 1) }
         ensures log { OnOk result (LogExtends (R.log ruler.old) (R.log ruler.new) ((q.now, object_at (content self.old) place) ∷ [])) };
 
-    /// Puts what stands in the node of the level at the place into the queue; what the best shut out may
-    /// be left out.
+    /// Puts the items of the node of the level at the place into the queue; those that the best so far prune may be
+    /// left out.
     fn open(
         &mut self,
         level: u8,

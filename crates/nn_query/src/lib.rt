@@ -1,4 +1,4 @@
-//! The nearest neighbours, answered with few distances: exactly what a scan of all objects gives.
+//! The k nearest neighbours, answered with few distance computations: exactly what a scan of all objects gives.
 #![tactic(auto)]
 
 mod best;

@@ -19,14 +19,13 @@ use spb_defs::NearAnswer;
 use spb_edge::{Bytes, Memory};
 use std::alloc::Global;
 
-/// The `k` rows that are nearest to the query, or all where they are fewer, exactly as a scan of all rows
-/// would find them: by distance, and of equal distances the lesser id first.
+/// The `k` rows that are nearest to the query, or all if there are fewer, exactly as a scan of all rows would find
+/// them: by distance, and of equal distances the lesser id first.
 ///
-/// It measures the query with each pivot, and then with the objects in the order of what the pivots tell
-/// that they are apart at least, the lesser id first, up to the last one that may still be among the
-/// nearest. It needs at most 8 pivots and 2^31 rows by them, no two with one id, and `k` of at least 1.
-/// It takes time in proportion to the rows, and the logarithm of them for each that is looked at, and
-/// memory for the rows' bounds and for `k` ranks.
+/// It measures the query with each pivot, and then with the objects in the order of their lower bounds, the lesser id
+/// first, up to the last one that may still be among the nearest. It needs at most 8 pivots and 2^31 rows by them, no
+/// two with the same id, and `k` of at least 1. It takes time in proportion to the rows, and the logarithm of them for
+/// each that is looked at, and memory for the rows' bounds and for `k` ranks.
 pub fn near_rows<R: Ruler>(
     alloc: Global,
     rows: &[Row],
@@ -65,9 +64,9 @@ pub(crate) struct VisitCount {
     opened: u64,
 }
 
-/// Looks at what waits in its order, nodes before objects of the same bound, up to the first that the best
-/// shut out: it opens nodes into the queue, and measures objects and puts their ranks among the best. It
-/// counts what it looked at. Its clauses say what it found if no bound is too great.
+/// Takes the items of the queue in order, nodes before objects of the same bound, up to the first that the best so far
+/// prune: it opens nodes into the queue, and measures objects and puts their ranks among the best. It counts what it
+/// looked at. Its clauses say what it found if no bound is too great.
 fn visit_in_order<H: Hierarchy, R: Ruler>(
     held: &mut H,
     mut queue: Queue,

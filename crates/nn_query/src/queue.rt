@@ -1,4 +1,4 @@
-//! What waits to be looked at.
+//! The queue of a search.
 ghost use Rattle.std.specs.Prelude.{◌≡◌, ◌^◌, ◌≤◌, length, map, All, IfOk};
 ghost use Rattle.std.specs.BinaryHeap.{IsHeap, heap_items};
 ghost use Rattle.std.proofs.Props.{props};
@@ -12,7 +12,7 @@ use std::alloc::Global;
 use std::cmp::Reverse;
 use std::collections::BinaryHeap;
 
-/// What waits: nodes go before objects, nodes of a lesser level before others, and objects by their ids.
+/// What an item is: nodes go before objects, nodes of a lesser level before others, and objects by their ids.
 #[derive(Clone, Copy, Debug, PartialEq, Eq, PartialOrd, Ord)]
 pub(crate) enum Kind {
     /// A node, to be opened.
@@ -21,8 +21,8 @@ pub(crate) enum Kind {
     Object { id: u32 },
 }
 
-/// A node or an object that waits: the distance that the query is apart at least from all objects under
-/// it, and its place. It goes by its bound, then by its kind, then by its place.
+/// A node or an object that waits: a lower bound of the query's distance to all objects under it, and its place. It is
+/// ordered by its bound, then its kind, then its place.
 #[derive(Clone, Copy, Debug, PartialEq, Eq, PartialOrd, Ord)]
 pub(crate) struct Waiting {
     pub(crate) bound: u32,
@@ -43,7 +43,7 @@ impl Waiting {
     }
 }
 
-/// Those that wait, put in order as they are taken out.
+/// The items that wait, sorted as they are taken out.
 #[derive(Drop)]
 pub(crate) struct Queue {
     heap: BinaryHeap<Reverse<Waiting>>,

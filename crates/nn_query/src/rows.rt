@@ -1,4 +1,4 @@
-//! Rows, with nothing in a node over them.
+//! Rows, without nodes over them.
 ghost use Rattle.std.specs.Prelude.{◌<◌, List, length, All};
 ghost use Rattle.pivot_map.specs.declared.row.Row as vector_row;
 ghost use Rattle.nn_query.specs.Listed.{object_at_place, empty_nodes};
@@ -10,7 +10,7 @@ use metric_laws::Ruler;
 use pivot_map::Row;
 use spb_edge::Memory;
 
-/// The objects of rows: each stands at the place of its row. Nodes may be opened, but none holds anything.
+/// The objects of rows: each is at the place of its row. Nodes may be opened, but none holds anything.
 #[derive(Clone, Copy)]
 pub(crate) struct Rows<'a> {
     pub(crate) rows: &'a [Row],
@@ -40,7 +40,7 @@ impl<'a> Hierarchy for Rows<'a> {
         Ok(ruler.measure(q, rows[place as usize].object.as_slice()))
     }
 
-    /// Nothing stands in it.
+    /// It is empty.
     fn open(
         &mut self,
         _level: u8,

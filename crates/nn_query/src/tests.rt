@@ -67,7 +67,7 @@ fn of_equal_distances_the_lesser_id(rt: HostRuntime) -> Result<(), Fail> {
     Ok(())
 }
 
-// A ruler that told no log would have no pairs.
+// A ruler without a log would have no pairs.
 #[test]
 fn the_pivots_are_asked_first(rt: HostRuntime) -> Result<(), Fail> {
     let pivots = pivots_of(rt.alloc(), PLANE, &[pair(0, 0)])?;

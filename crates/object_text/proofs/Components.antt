@@ -109,7 +109,7 @@ none_left dim most ns rest (Some i) at count none =
     ap (completed dim most ns) (split-some (λ b. b == 44) rest i at)
     ∙ completed-other dim most ns (take i rest ∷ slice_split (λ b. b == 44) behind) (λ e. absurd (omega arith))
 
--- the last one fails, also where more would follow
+-- the last one fails, also if more would follow
 pub last_fails : (dim most done : ℕ) (object rest : List ℕ) (whole : Option (List ℕ)) → IsBegun dim most done object rest whole → done ≡ dim → number_within most rest ≡ None → whole ≡ None
 last_fails dim most done object rest whole b end none =
     b.goes_on ∙ none_left dim most b.numbers rest (position (λ x. x == 44) rest) refl (b.count ∙ end) none

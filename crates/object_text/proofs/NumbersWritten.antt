@@ -31,13 +31,13 @@ pub first_text : (ns : List ℕ) → 0 < length ns → numbers_text (take 1 ns) 
 first_text [] some = absurd (omega arith)
 first_text (n ∷ ns) some = refl
 
--- the number at `place` behind those before it
+-- the number at `place` after those before it
 more_text : (ns : List ℕ) (place : ℕ) → 1 ≤ place → place < length ns → numbers_text (take (place + 1) ns) ≡ numbers_text (take place ns) ++ 44 ∷ decimal (get_or ns place 0)
 more_text ns place some inside =
     let long : length (take place ns) ≡ place = length-take-le place ns (omega arith) in
     ap numbers_text (take_more ns place 0 inside) ∙ numbers_push (take place ns) (get_or ns place 0) (omega arith)
 
--- a number is written behind what was written so far
+-- a number is written after what was written so far
 pub goes_on : (old so_far new ns : List ℕ) (place n : ℕ) → so_far ≡ old ++ numbers_text (take place ns) → new ≡ (so_far ++ 44 ∷ []) ++ decimal n → n ≡ get_or ns place 0 → 1 ≤ place → place < length ns →
     new ≡ old ++ numbers_text (take (place + 1) ns)
 goes_on old so_far new ns place n before e is some inside =

@@ -24,7 +24,7 @@ value-more word i inside d =
     let more : digits_value 10 (take (i + 1) word) ≡ digits_value 10 (take i word) * 10 + digit_value (get_or word i 0) = digits_value_more 10 word i inside in
     omega arith
 
--- a front that is past 64 bits is in a number that is
+-- a number with a prefix that exceeds 64 bits exceeds them too
 pub value-past : (word : List ℕ) (i bound : ℕ) → bound ≤ digits_value 10 (take i word) → bound ≤ digits_value 10 word
 value-past word i bound past =
     let le : digits_value 10 (take i word) ≤ digits_value 10 word = digits_value-take-le 10 word i (omega arith) in

@@ -84,7 +84,7 @@ nothing : (read : Option (List ℕ)) → ((object : List ℕ) → read ≡ Some 
 nothing None h = refl
 nothing (Some object) h = absurd (h object refl)
 
--- no set is read of the text where it isn't `-` and its numbers aren't a set
+-- no set is read of the text if it isn't `-` and its numbers aren't a set
 none_read : (universe most : ℕ) (text : List ℕ) → bytes_eq text (codes "-") ≡ false →
     ((ns : List ℕ) → numbers_in (universe - 1) text ≡ Some ns → IsStrictlyIncreasing ns → length ns ≤ most → ⊥) → set_of_text universe most text ≡ None
 unfolding set_of_text
@@ -115,7 +115,7 @@ no_number universe most done text word dash more is none =
 same_number : (m n : ℕ) → ◌≡◌ {A = Option ℕ} (Some m) (Some n) → m ≡ n
 same_number m n e = cc
 
--- a number of the front is that of the whole
+-- a number of the prefix is that of the whole
 front_number : (bound done k : ℕ) (words : List (List ℕ)) (ns whole : List ℕ) → numbers_within bound (take done words) ≡ Some ns → numbers_within bound words ≡ Some whole → length ns ≡ done → k < done → k < length words → get_or whole k 0 ≡ get_or ns k 0
 front_number bound done k words ns whole e f count inside more =
     let many : length ns ≡ length (take done words) = length-numbers_within bound (take done words) ns e in

@@ -1,8 +1,8 @@
 //! The texts of numbers and of objects.
 //!
-//! A number is written in decimal, without a sign and without a leading zero. A vector is written as
-//! its components with commas between them, a string as two lower-case hexadecimal digits for each
-//! byte, and a set as its elements with commas between them, or `-` where it has none.
+//! A number is written in decimal, without a sign and without a leading zero. A vector is written as its components
+//! with commas between them, a string as two lower-case hexadecimal digits for each byte, and a set as its elements
+//! with commas between them, or `-` if it has none.
 #![tactic(auto)]
 
 mod laws;

@@ -2,7 +2,7 @@ ghost use Rattle.std.specs.Prelude.{◌≡◌, ◌≤◌, ◌^◌, MatchOption};
 ghost use Rattle.std.specs.Str.Parse.{AllDigits, digits_value};
 ghost use Rattle.spb_defs.specs.Numbers.{number_of, number_within};
 
-/// The number that the word spells in decimal, where it is at most `most`.
+/// The number that the word spells in decimal, if it is at most `most`.
 ///
 /// There is no sign, and no leading zero but in `0` itself. It takes no memory, and passes over the
 /// word once.
@@ -13,7 +13,7 @@ pub fn number(word: &[u8], most: u64) -> Option<u64>
     if value <= most { Some(value) } else { None }
 }
 
-/// The number that the word spells, where it is in 64 bits.
+/// The number that the word spells, if it fits in 64 bits.
 fn value_of(word: &[u8]) -> Option<u64>
     ensures { result ≡ number_of word.now }
 {
@@ -24,7 +24,7 @@ fn value_of(word: &[u8]) -> Option<u64>
     value_of_digits(word)
 }
 
-/// The value of the digits, leading zeros or not, where it is in 64 bits and there is nothing else.
+/// The value of the digits, leading zeros or not, if it fits in 64 bits and there is nothing else.
 fn value_of_digits(word: &[u8]) -> Option<u64>
     ensures { MatchOption result
         (AllDigits 10 word.now → 2 ^ 64 ≤ digits_value 10 word.now)

@@ -45,7 +45,7 @@ impl From<Memory> for TextError {
 ///
 /// # Errors
 ///
-/// `BadObject` where the text is not that of an object of the space. `Memory` where memory runs out.
+/// `BadObject` if the text is not that of an object of the space. `Memory` if memory runs out.
 pub fn read_object(alloc: Global, space: &Space, text: &[u8]) -> Result<Bytes, TextError>
     requires { IsTrue (fits space.now) }
     ensures exact { ReadsObject result (object_of space.now text.now) }
@@ -92,7 +92,7 @@ fn vector(dim: u32, most: u32, text: &[u8]) -> Option<ArrayVec<u8, OBJECT_BYTES>
     Some(object)
 }
 
-/// The bytes that the text spells in lower-case hexadecimal, where they are `len`.
+/// The bytes that the text spells in lower-case hexadecimal, if there are `len`.
 fn string(len: u32, text: &[u8]) -> Option<ArrayVec<u8, OBJECT_BYTES>>
     requires short { len ≤ 120 }
     ensures { MatchOption result
@@ -151,7 +151,7 @@ fn set(universe: u32, most: u32, text: &[u8]) -> Option<ArrayVec<u8, OBJECT_BYTE
     Some(object)
 }
 
-/// The number that the word spells, where it is at most `most`.
+/// The number that the word spells, if it is at most `most`.
 fn component(word: &[u8], most: u32) -> Option<u32>
     ensures { result ≡ number_within most word.now }
 {
@@ -159,7 +159,7 @@ fn component(word: &[u8], most: u32) -> Option<u32>
     Some(n as u32)
 }
 
-/// Puts the number's four bytes at the end.
+/// Appends the number's four bytes.
 fn push_component(object: &mut ArrayVec<u8, OBJECT_BYTES>, n: u32)
     requires { length object.old.items + 4 ≤ OBJECT_BYTES }
     ensures { object.new.items ≡ object.old.items ++ to_be_bytes w32 n }

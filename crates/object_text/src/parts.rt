@@ -1,8 +1,8 @@
 ghost use Rattle.std.specs.Prelude.{◌≡◌, ◌==◌, [], ◌∷◌, MatchOption};
 ghost use Rattle.std.specs.List.{position, slice_split};
 
-/// The part of `text` before the first byte `mark`, and what stands behind it, or nothing where no
-/// byte is `mark`.
+/// The part of `text` before the first byte `mark`, and what follows it, or None if no byte is
+/// `mark`.
 ///
 /// It takes no memory, and passes over the part once.
 pub fn cut(mark: u8, text: &[u8]) -> Option<(&[u8], &[u8])>
@@ -16,7 +16,7 @@ pub fn cut(mark: u8, text: &[u8]) -> Option<(&[u8], &[u8])>
     }
 }
 
-/// Where the first byte `mark` stands.
+/// Where the first byte `mark` is.
 fn place(mark: u8, text: &[u8]) -> Option<usize>
     ensures { result ≡ position (λ b. b == mark) text.now }
 {

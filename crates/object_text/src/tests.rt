@@ -78,7 +78,7 @@ fn objects_of_texts(rt: HostRuntime) -> Result<(), Fail> {
     Ok(())
 }
 
-// the text of the object that the text is read as, behind a word
+// the text of the object that the text is read as, after a word
 fn written(alloc: Global, space: &Space, text: &str) -> Result<Bytes, TextError> {
     let mut again = Bytes::of(alloc, b"object ")?;
     if space.fits() {

@@ -10,13 +10,13 @@ use itoa::Buffer;
 use metrics_builtin::{Space, component};
 use spb_edge::{Bytes, Memory};
 
-/// Puts the one text of an object of the space at the end of `text`.
+/// Appends the one text of an object of the space to `text`.
 ///
 /// It passes over the object once, and takes memory for the text alone.
 ///
 /// # Errors
 ///
-/// `Memory` where memory runs out. Then `text` may end amid the object's.
+/// `Memory` if memory runs out. Then `text` may end in the middle of the object's.
 pub fn write_object(space: &Space, object: &[u8], text: &mut Bytes) -> Result<(), Memory>
     requires fits { IsTrue (fits space.now) }
     requires valid { IsValid space.now object.now }
@@ -30,8 +30,7 @@ pub fn write_object(space: &Space, object: &[u8], text: &mut Bytes) -> Result<()
     }
 }
 
-/// Puts the elements of the object at the end of `text` with commas between them, or `-` where there
-/// are none.
+/// Appends the elements of the object to `text` with commas between them, or `-` if there are none.
 fn write_set(object: &[u8], text: &mut Bytes) -> Result<(), Memory>
     requires whole { length object.now % 4 ≡ 0 }
     ensures { OnOk result (text.new ≡ text.old ++ set_text (components object.now)) }
@@ -42,7 +41,7 @@ fn write_set(object: &[u8], text: &mut Bytes) -> Result<(), Memory>
     write_numbers(object, text)
 }
 
-/// Puts the numbers of the object, one at least, at the end of `text` with commas between them.
+/// Appends the numbers of the object, one at least, to `text` with commas between them.
 fn write_numbers(object: &[u8], text: &mut Bytes) -> Result<(), Memory>
     requires some { 4 ≤ length object.now }
     ensures { OnOk result (text.new ≡ text.old ++ numbers_text (components object.now)) }
@@ -54,7 +53,7 @@ fn write_numbers(object: &[u8], text: &mut Bytes) -> Result<(), Memory>
     Ok(())
 }
 
-/// Puts what stands before a number, and the number in decimal, at the end of `text`.
+/// Appends what comes before a number, and the number in decimal, to `text`.
 fn write_number(before: &[u8], n: u32, text: &mut Bytes) -> Result<(), Memory>
     ensures { OnOk result (text.new ≡ text.old ++ before.now ++ decimal n) }
 {
@@ -63,7 +62,7 @@ fn write_number(before: &[u8], n: u32, text: &mut Bytes) -> Result<(), Memory>
     text.append(buffer.format(n).as_bytes())
 }
 
-/// Puts two lower-case hexadecimal digits for each byte of the object at the end of `text`.
+/// Appends two lower-case hexadecimal digits for each byte of the object to `text`.
 fn write_digits(object: &[u8], text: &mut Bytes) -> Result<(), Memory>
     requires short { length object.now ≤ 120 }
     ensures { OnOk result (text.new ≡ text.old ++ encode_lower object.now) }

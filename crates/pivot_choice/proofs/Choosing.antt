@@ -1,4 +1,4 @@
--- The choice, turn by turn.
+-- The choice, pivot by pivot.
 use Rattle.std.proofs.Common.{◌≡◌, ◌≢◌, ℕ, ◌+◌, ◌-◌, ◌*◌, ◌<◌, ◌≤◌, List, [], ◌∷◌, ◌++◌, length, map, set, get_or, replicate, cond, nat_eq, not, ◌||◌, ◌==◌, count_by, sum_by, refl, sym, ap, subst, ◌∙◌, arith, Bool, true, false, zero, suc}
 use Rattle.std.proofs.Math.Bool.{or-false}
 use Rattle.std.specs.Prelude.{if◌then◌else◌}
@@ -149,8 +149,8 @@ filter-same p q (suc n) each =
     ∙ sym (filter-append q (range_with_len 0 n) (n ∷ []))
     ∙ ap (filter q) (sym whole)
 
--- What is kept between two turns: `before` places are chosen and their distances are added, and the place that is chosen
--- behind them is known.
+-- What is known between two iterations: `before` places are chosen and their distances are added, and the place that is
+-- chosen next is known.
 pub record Choosing (dist : List ℕ → List ℕ → ℕ) (samples : List (List ℕ)) (before : ℕ) (worths places : List ℕ) (chosen : ℕ) : Type 0 where
   pub same_length : length worths ≡ length samples
   pub each : (k : ℕ) → k < length samples → get_or worths k 0 ≡ worth dist samples (chosen_places dist samples before) k

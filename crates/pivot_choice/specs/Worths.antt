@@ -1,4 +1,4 @@
--- What the choice keeps of each place between two turns, and which pairs it measures.
+-- What the choice keeps of each place between two iterations, and which pairs it measures.
 use Rattle.std.specs.Prelude.{ℕ, ◌+◌, ◌==◌, Bool, not, nat_lt, List, [], ◌++◌, length, map, slice_index, if◌then◌else◌, zero, suc}
 use Rattle.std.specs.List.{filter, list_any, range_with_len}
 use Rattle.metric_laws.specs.Objects.{Object, Distance}
@@ -14,11 +14,11 @@ abbrev pub updated_worth : Distance → List Object → ℕ → ℕ → ℕ → 
 updated_worth dist samples chosen place worth =
     if worth == 0 then 0 else worth + dist (sample_at samples chosen) (sample_at samples place)
 
--- the samples at the first places that are worth something, by rising place
+-- the samples at the first places that are worth something, by ascending place
 abbrev pub unchosen_among_first : List ℕ → List Object → ℕ → List Object
 unchosen_among_first worths samples places = map (sample_at samples) (filter (λ place. is_unchosen (slice_index worths place)) (range_with_len 0 places))
 
--- the samples that aren't chosen, by rising place
+-- the samples that aren't chosen, by ascending place
 abbrev pub unchosen_samples : List Object → List ℕ → List Object
 unchosen_samples samples chosen =
     map (sample_at samples) (filter (λ place. not (list_any (λ other. other == place) chosen)) (range_with_len 0 (length samples)))

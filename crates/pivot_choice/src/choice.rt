@@ -17,10 +17,10 @@ use std::alloc::Global;
 /// further one is the object, not chosen yet, whose distances to the chosen ones have the greatest sum, and
 /// the earliest of several such. So the places are below the number of samples, and no two are equal.
 ///
-/// It needs at most 2^31 admitted samples and `n` of at most as many; where `n` is 0 there may be none.
-/// It measures each chosen object but the last with all that aren't chosen yet, once, so it takes time in
-/// proportion to `n` times the samples, and memory for one number for each sample and one for each place.
-/// Want of memory is its only error; the ruler may have measured by then.
+/// It needs at most 2^31 admitted samples and `n` of at most as many; if `n` is 0 there may be none. It measures each
+/// chosen object but the last with all that aren't chosen yet, once, so it takes time in proportion to `n` times the
+/// samples, and memory for one number for each sample and one for each place. Its only error is that memory ran out;
+/// the ruler may have measured by then.
 pub fn choose<R: Ruler>(
     alloc: Global,
     ruler: &mut R,
@@ -98,8 +98,8 @@ fn best_place(worths: &[u64]) -> usize
     best
 }
 
-/// Adds its distance from the chosen sample to each place that is worth something, by rising place. It
-/// measures one distance for each of these.
+/// Adds its distance from the chosen sample to each place that is worth something, by ascending place. It measures one
+/// distance for each of these.
 fn add_distances<R: Ruler>(ruler: &mut R, sample: &[Bytes], chosen: usize, worths: &mut [u64])
     requires within { chosen < length sample.now }
     requires lengths { length worths.old ≡ length sample.now }

@@ -23,7 +23,7 @@ fn objects_of<R: Ruler>(alloc: Global, ruler: &R, points: &[(u8, u8)]) -> Result
     Ok(objects)
 }
 
-/// The places of `n` of the points; none, where there aren't so many.
+/// The places of `n` of the points; none, if there aren't that many.
 fn chosen<R: Ruler>(
     alloc: Global,
     ruler: &mut R,

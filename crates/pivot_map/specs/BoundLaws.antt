@@ -1,4 +1,4 @@
--- What the cells of an object tell of a distance follows from the laws of a distance, pivot by pivot.
+-- The bounds that the cells of an object set to a distance follow from the laws of a distance, pivot by pivot.
 use Rattle.std.proofs.Common.{◌≡◌, ℕ, ◌+◌, ◌≤◌, max, Bool, true, false, ◌&&◌, ◌||◌, List, [], ◌∷◌, ◌++◌, length, refl, sym, ap, ◌∙◌, arith}
 use Rattle.std.specs.Prelude.{nat_le, All}
 use Rattle.std.specs.Int.{abs_diff}
@@ -92,7 +92,7 @@ within-step x y radius most met h = grind (arith, nat_tests)
 zero-within : (radius : ℕ) → true ≡ nat_le 0 radius
 zero-within radius = grind (arith, nat_tests)
 
--- a query and an object meet exactly where the lower bound is within the radius
+-- a query and an object meet exactly if the lower bound is within the radius
 pub meets-by-bound : (asked cells : List ℕ) (radius : ℕ) → meets asked radius cells ≡ nat_le (lower_bound asked cells) radius
 meets-by-bound [] cells radius = zero-within radius
 meets-by-bound (x ∷ xs) [] radius = zero-within radius

@@ -1,4 +1,4 @@
--- What the cells of an object tell of its distance from a query and from another object, for any distance that is a metric.
+-- How the cells of an object bound its distance from a query and from another object, for any metric.
 use Rattle.std.specs.Prelude.{ℕ, ◌≤◌, IsTrue, List}
 use Rattle.metric_laws.specs.Objects.{Object, Distance}
 use Rattle.spb_defs.specs.Pivots.{vector_of, cells_of, meets, is_sure, lower_bound, pair_meets, pair_is_sure}

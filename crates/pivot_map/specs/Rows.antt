@@ -16,7 +16,7 @@ pub record ArePivots (admitted : Object → Type 0) (pivots : List Object) : Typ
   pub few : length pivots ≤ 8
   pub objects : All admitted pivots
 
--- rows of objects that are measured, each with its cells, and no two with one id
+-- rows of objects that are measured, each with its cells, and no two with the same id
 pub record AreRows (admitted : Object → Type 0) (dist : Distance) (pivots : List Object) (rows : List Row) : Type 0 where
   pub few : length rows ≤ 2 ^ 31
   pub objects : All (λ (row : Row). admitted row.object) rows

@@ -1,4 +1,4 @@
--- Laws of what the pivots tell.
+-- Laws of the tests by pivots.
 use Rattle.std.proofs.Common.{◌≡◌, ℕ, ◌<◌, ◌≤◌, Bool, true, false, List, refl, sym, ap, ◌∙◌, arith}
 use Rattle.metric_laws.specs.Objects.{Object, Distance}
 use Rattle.spb_defs.specs.Pivots.{vector_of, cells_of, meets, is_sure, pair_meets, pair_is_sure}
@@ -13,7 +13,7 @@ tells-of false sure = refl
 tells-of true false = (refl, refl)
 tells-of true true = (refl, refl)
 
--- the verdict on a query and an object tells the two tests
+-- the verdict on a query and an object gives the two tests
 pub query-tells : (asked cells : List ℕ) (radius : ℕ) → IsTestOf (query_verdict asked radius cells) (meets asked radius cells) (is_sure asked radius cells)
 query-tells asked cells radius = tells-of (meets asked radius cells) (is_sure asked radius cells)
 
@@ -26,7 +26,7 @@ pub pair_verdict-symmetric : (a b : Object) (radius : ℕ) → pair_verdict a ra
 pair_verdict-symmetric a b radius =
     ap (λ met. verdict met (pair_is_sure a radius b)) (pair_meets-symmetric a b radius) ∙ ap (λ sure. verdict (pair_meets b radius a) sure) (pair_is_sure-symmetric a b radius)
 
--- ---- what the verdict tells of the distance
+-- ---- what the verdict says of the distance
 
 further : (radius distance : ℕ) → (distance ≤ radius → ⊥) → radius < distance
 further radius distance h = omega arith
@@ -36,7 +36,7 @@ settles-by distance radius Apart met sure t f g = further radius distance (λ h.
 settles-by distance radius Open met sure t f g = tt
 settles-by distance radius Sure met sure (m, s) f g = g s
 
--- the verdict on a query and an object tells their distance
+-- the verdict on a query and an object is true of their distance
 pub query_settles : (admitted : Object → Type 0) (dist : Distance) (pivots : List Object) → BoundsHold admitted dist pivots → (q o : Object) (radius : ℕ) → admitted q → admitted o
     → IsSoundTest (query_verdict (vector_of dist pivots q) radius (cells_of dist pivots o)) (dist q o) radius
 query_settles admitted dist pivots bounds q o radius f g =
@@ -46,7 +46,7 @@ query_settles admitted dist pivots bounds q o radius f g =
     (bounds.within_meets q o radius f g)
     (bounds.sure_within q o radius f g)
 
--- and the verdict on two objects tells theirs
+-- and the verdict on two objects of theirs
 pub pair_settles : (admitted : Object → Type 0) (dist : Distance) (pivots : List Object) → BoundsHold admitted dist pivots → (a b : Object) (radius : ℕ) → admitted a → admitted b
     → IsSoundTest (pair_verdict (cells_of dist pivots a) radius (cells_of dist pivots b)) (dist a b) radius
 pair_settles admitted dist pivots bounds a b radius f g =

@@ -1,24 +1,24 @@
--- What the pivots tell of whether a distance is within a radius.
+-- Whether the pivots decide if a distance is within a radius.
 use Rattle.std.specs.Prelude.{◌≡◌, ℕ, ◌<◌, ◌≤◌, Bool, true, false, List}
 use Rattle.spb_defs.specs.Pivots.{meets, is_sure, pair_meets, pair_is_sure}
 use Rattle.pivot_map.specs.declared.verdict.PairTest.{PairTest}
 use Rattle.pivot_map.specs.declared.verdict.PairTest.TheVariants.{Apart, Open, Sure}
 
--- what is told, by whether the two meet and whether that is sure
+-- the verdict, by whether the two meet and whether they are sure
 abbrev pub verdict : Bool → Bool → PairTest
 verdict false sure = Apart
 verdict true false = Open
 verdict true true = Sure
 
--- what the pivots tell of a query and an object: apart where the two don't meet, else sure where that is sure, else open
+-- the verdict on a query and an object: apart if the two don't meet, else sure if they are, else open
 abbrev pub query_verdict : List ℕ → ℕ → List ℕ → PairTest
 query_verdict asked radius cells = verdict (meets asked radius cells) (is_sure asked radius cells)
 
--- and of two objects
+-- and on two objects
 abbrev pub pair_verdict : List ℕ → ℕ → List ℕ → PairTest
 pair_verdict a radius b = verdict (pair_meets a radius b) (pair_is_sure a radius b)
 
--- the two tests, by what is told
+-- the two tests, by the verdict
 abbrev pub IsTestOf : PairTest → Bool → Bool → Type 0
 IsTestOf Apart met sure = met ≡ false
 IsTestOf Open met sure = (met ≡ true) × (sure ≡ false)

@@ -1,4 +1,4 @@
-//! What the pivots tell of a distance, as contracts.
+//! The bounds that pivots set to a distance, as contracts.
 ghost use Rattle.std.specs.Prelude.{ℕ, List, All};
 ghost use Rattle.spb_defs.specs.Pivots.{vector_of, cells_of};
 ghost use Rattle.pivot_map.specs.Bounds.{BoundsHold};
@@ -21,8 +21,8 @@ pub fn bounds_of_metric<M: Metric>(metric: &M, pivots: &[Bytes])
     ensures { BoundsHold (M.admitted metric.now) (M.dist metric.now) pivots.now }
 {}
 
-/// What the tests by the pivots tell of a distance, as a contract: two objects, or a query and an object, that are
-/// apart are further from each other than the radius, and two that are sure are within it. The call does nothing.
+/// What the tests by the pivots say of a distance, as a contract: two objects, or a query and an object, that are apart
+/// are further from each other than the radius, and two that are sure are within it. The call does nothing.
 pub fn verdicts_hold<R: Ruler>(ruler: &R, pivots: &[Bytes])
     requires pivots { All (R.admitted (R.kind ruler.now)) pivots.now }
     ensures query { (q o : List ℕ) (radius : ℕ) → R.admitted (R.kind ruler.now) q → R.admitted (R.kind ruler.now) o

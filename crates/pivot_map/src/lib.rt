@@ -1,4 +1,4 @@
-//! The distances of objects to the pivots, and what they tell of a distance that wasn't computed.
+//! The distances of objects to the pivots, and the bounds that they set to a distance that wasn't computed.
 #![tactic(auto)]
 
 mod bounds;

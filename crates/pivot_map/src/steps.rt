@@ -21,8 +21,8 @@ impl<L: Ledger> Model for Steps<L> {
 }
 
 impl<L: Ledger> Steps<L> {
-    /// No steps yet, in a new ledger. The function that makes them is generic over the ledger `L` and is
-    /// handed the blank; where it is called, `L` is `Brand` and the blank is `Blank::new(1)`.
+    /// No steps yet, in a new ledger. The function that makes them is generic over the ledger `L` and is handed the
+    /// blank; when it is called, `L` is `Brand` and the blank is `Blank::new(1)`.
     pub fn new(blank: Blank) -> Steps<L>
         requires name { blank.name ≡ L.name }
         requires parts { blank.parts ≡ L.parts }

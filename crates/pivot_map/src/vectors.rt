@@ -1,4 +1,4 @@
-//! The vector of an object, and what two vectors tell.
+//! The vector of an object, and the bounds by two vectors.
 ghost use Rattle.std.specs.Prelude.{◌≡◌, ◌+◌, ◌^◌, ◌<◌, ◌≤◌, nat_le, length, All};
 ghost use Rattle.metric_laws.specs.Log.{LogExtends, each_with};
 ghost use Rattle.spb_defs.specs.Pivots.{vector_of, meets, is_sure, lower_bound};
@@ -27,8 +27,8 @@ pub fn map_object<R: Ruler>(ruler: &mut R, pivots: &[Bytes], object: &[u8]) -> V
     Vect::of(&at[..known])
 }
 
-/// Whether no pivot shows that the two objects are further apart than the radius: `|q_i - o_i| <= r` for
-/// each coordinate. The vectors have one length.
+/// Whether no pivot shows that the two objects are further apart than the radius: `|q_i - o_i| <= r` for each
+/// coordinate. The vectors have the same length.
 pub fn meets(q: &Vect, o: &Vect, r: u32) -> bool
     requires { length q.now ≡ length o.now }
     ensures { result ≡ meets q.now r o.now }
@@ -39,8 +39,8 @@ pub fn meets(q: &Vect, o: &Vect, r: u32) -> bool
         .all(|(&a, &b)| a.abs_diff(b) <= r)
 }
 
-/// Whether some pivot shows that the two objects are within the radius of each other: `q_i + o_i <= r` for
-/// some coordinate, the sum taken in 64 bits. The vectors have one length.
+/// Whether some pivot shows that the two objects are within the radius of each other: `q_i + o_i <= r` for some
+/// coordinate, the sum taken in 64 bits. The vectors have the same length.
 pub fn sure(q: &Vect, o: &Vect, r: u32) -> bool
     requires { length q.now ≡ length o.now }
     ensures { result ≡ is_sure q.now r o.now }
@@ -58,8 +58,8 @@ fn is_within(a: u32, b: u32, r: u32) -> bool
     u64::from(a) + u64::from(b) <= u64::from(r)
 }
 
-/// What the pivots tell that two objects are apart at least: the greatest `|q_i - o_i|`, and 0 without
-/// coordinates. The vectors have one length.
+/// The lower bound of the distance of two objects: the greatest `|q_i - o_i|`, and 0 without coordinates. The vectors
+/// have the same length.
 pub fn lower(q: &Vect, o: &Vect) -> u32
     requires { length q.now ≡ length o.now }
     ensures { result ≡ lower_bound q.now o.now }

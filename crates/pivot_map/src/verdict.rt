@@ -1,4 +1,4 @@
-//! What the pivots tell of whether a distance is within a radius.
+//! Whether the pivots decide if a distance is within a radius.
 ghost use Rattle.std.specs.Prelude.{◌≡◌, ◌+◌, length};
 ghost use Rattle.pivot_map.specs.Verdicts.{query_verdict, pair_verdict};
 
@@ -7,8 +7,7 @@ use crate::vectors::{meets, sure};
 use curve_laws::Vect;
 use std::sync::ledger::Ledger;
 
-/// What the distances of two objects to the pivots tell of whether the two are within a radius of each
-/// other.
+/// Whether two objects are within a radius of each other, as far as their distances to the pivots decide it.
 #[derive(Clone, Copy, Debug, PartialEq, Eq)]
 pub enum PairTest {
     /// They aren't: some pivot shows that they are further apart.
@@ -19,8 +18,8 @@ pub enum PairTest {
     Sure,
 }
 
-/// Tests a query, by its distances to the pivots, and an object, by its cells; the two have one length. It looks
-/// at each coordinate once where they are apart, and at most twice otherwise, and takes no memory.
+/// Tests a query, by its distances to the pivots, and an object, by its cells; the two have the same length. It looks
+/// at each coordinate once if they are apart, and at most twice otherwise, and takes no memory.
 pub fn test_query(q: &Vect, o: &Vect, r: u32) -> PairTest
     requires { length q.now ≡ length o.now }
     ensures { result ≡ query_verdict q.now r o.now }
@@ -34,8 +33,8 @@ pub fn test_query(q: &Vect, o: &Vect, r: u32) -> PairTest
     PairTest::Open
 }
 
-/// Tests two objects by their cells, which have one length. A cell is one distance, so the test is that of a
-/// query and an object.
+/// Tests two objects by their cells, which have the same length. A cell is one distance, so the test is that of a query
+/// and an object.
 pub fn test_pair(a: &Vect, b: &Vect, r: u32) -> PairTest
     requires { length a.now ≡ length b.now }
     ensures { result ≡ pair_verdict a.now r b.now }

@@ -49,7 +49,7 @@ fn places_that_differ(left: &[u8], right: &[u8]) -> u64 {
     places
 }
 
-/// How many elements of the one set the other one has not. Equal numbers have equal texts.
+/// How many elements of one set the other lacks. Equal numbers have equal texts.
 fn missing(set: &[u8], other: &[u8]) -> u64 {
     let mut many = 0u64;
     for element in set.split(|b| *b == b',') {

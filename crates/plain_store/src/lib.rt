@@ -1,10 +1,10 @@
-//! The program in memory once more, by plain scans of a list: slow, and written without the code that it
-//! is compared with. Tests of the top call hold the replies of the two against each other.
+//! A second program for a store in memory, by plain scans of a list: slow, and written without the code that it is
+//! compared with. Tests of the top call compare the replies of the two.
 //!
-//! It stands on nothing but std, so that it is proved safe and built once, whatever changes in the store.
+//! It depends on std alone, so that it is proved safe and built once, whatever changes in the store.
 //!
-//! Objects stay the texts that they came as, and distances are taken of texts. Every distance is measured
-//! for the answers; the counts say which of them the pivots would have spared.
+//! Objects stay the texts that they came as, and distances are taken of texts. Every distance is measured for the
+//! answers; the counts say which of them the pivots would have saved.
 #![tactic(auto)]
 
 mod distances;
@@ -14,7 +14,7 @@ use distances::distance;
 use lines::{Kind, Member, Request, request_of, setup_of};
 use std::alloc::{AllocError, Global};
 
-/// What the pivots tell of a distance: that it is from `least` to `most`.
+/// The bounds that the pivots set to a distance: it is from `least` to `most`.
 #[derive(Drop)]
 struct Bounds {
     least: u64,
@@ -27,13 +27,13 @@ impl Bounds {
         self.least <= radius && self.most > radius
     }
 
-    /// Whether the pivots tell that the distance is within the radius.
+    /// Whether the pivots show that the distance is within the radius.
     fn are_sure(&self, radius: u64) -> bool {
         self.least <= radius && self.most <= radius
     }
 }
 
-/// The pairs of a join so far, how many of all the pivots leave open, and how many they tell.
+/// The pairs of a join so far, how many of all the pivots leave open, and how many they show to be within.
 #[derive(Drop)]
 struct Pairs {
     ids: Vec<(u64, u64)>,
@@ -89,7 +89,7 @@ pub fn play(alloc: Global, words: &[&str], script: &[u8]) -> Result<Option<Vec<u
 }
 
 impl<'a> Session<'a> {
-    /// Puts the reply to the line at the end of `text`.
+    /// Appends the reply to the line to `text`.
     fn answer_line(&mut self, line: &'a [u8], text: &mut Vec<u8>) -> Result<(), AllocError> {
         if line.len() > 16_384 {
             return text.extend_from_slice(b"long\n");
@@ -103,7 +103,7 @@ impl<'a> Session<'a> {
         }
     }
 
-    /// Puts the reply to the request at the end of `text`.
+    /// Appends the reply to the request to `text`.
     fn answer(&mut self, request: Request<'a>, text: &mut Vec<u8>) -> Result<(), AllocError> {
         if let Request::Sample(object) = request {
             return self.sample(object, text);
@@ -156,7 +156,7 @@ impl<'a> Session<'a> {
         Ok(())
     }
 
-    /// Chooses one more pivot, where a sample is left.
+    /// Chooses one more pivot, if a sample is left.
     fn choose(&mut self) -> Result<(), AllocError> {
         let Some(place) = self.farthest() else {
             return Ok(());
@@ -198,7 +198,7 @@ impl<'a> Session<'a> {
         sum
     }
 
-    /// What the pivots tell of the distance of two objects.
+    /// The bounds that the pivots set to the distance of two objects.
     fn bounds(&self, left: &[u8], right: &[u8]) -> Bounds {
         let mut least = 0u64;
         let mut most = u64::MAX;
@@ -263,8 +263,8 @@ impl<'a> Session<'a> {
         text.extend_from_slice(format!(in self.alloc; "count {many}\n")?.as_bytes())
     }
 
-    /// The ids of the collection whose distance is within the radius, rising; how many of them the pivots
-    /// tell, and of how many they tell nothing.
+    /// The ids of the collection whose distance is within the radius, ascending; how many of them the pivots show to be
+    /// within, and how many they leave open.
     fn range(
         &self,
         collection: u64,
@@ -308,8 +308,8 @@ impl<'a> Session<'a> {
         Ok(ranks)
     }
 
-    /// How many distances a search for the nearest takes: those to the pivots, and those of the members
-    /// whose least distance and id aren't behind the last rank.
+    /// How many distances a search for the nearest takes: those to the pivots, and those of the members whose least
+    /// distance and id don't come after the last rank.
     fn near_evals(&self, collection: u64, query: &[u8], last: Option<(u64, u64)>) -> u64 {
         let mut evals = self.pivots.len() as u64;
         for member in &self.members {

@@ -75,7 +75,7 @@ pub(crate) fn setup_of(words: &[&str]) -> Option<Setup> {
     Some(Setup { kind, wanted })
 }
 
-/// Strings of so many bytes.
+/// Strings of this many bytes.
 fn hamming_of(bytes: &str) -> Option<Kind> {
     let bytes = number(bytes.as_bytes(), 1, 120)?;
     Some(Kind::Hamming { bytes })
@@ -133,7 +133,7 @@ pub(crate) fn request_of<'a>(kind: Kind, words: &[&'a [u8]]) -> Result<Request<'
     }
 }
 
-/// The answer where the name is none of a command, or the number of words is another.
+/// The answer if the name isn't a command's, or the number of words is wrong.
 fn no_command<'a>() -> Result<Request<'a>, &'static str> {
     Err("command")
 }
@@ -236,7 +236,7 @@ fn id_of(word: &[u8]) -> Result<u64, &'static str> {
     number(word, 0, GREATEST).ok_or("id")
 }
 
-/// The word, where it is the text of an object.
+/// The word, if it is the text of an object.
 fn object_of<'a>(kind: Kind, word: &'a [u8]) -> Result<&'a [u8], &'static str> {
     let is_object = match kind {
         Kind::L1 { components, most } | Kind::LInf { components, most } => {
@@ -248,7 +248,7 @@ fn object_of<'a>(kind: Kind, word: &'a [u8]) -> Result<&'a [u8], &'static str> {
     if is_object { Ok(word) } else { Err("object") }
 }
 
-/// Whether the text is so many numbers up to `most`.
+/// Whether the text is this many numbers up to `most`.
 fn is_vector(text: &[u8], components: u64, most: u64) -> bool {
     let mut seen = 0u64;
     for part in text.split(|b| *b == b',') {
@@ -260,7 +260,7 @@ fn is_vector(text: &[u8], components: u64, most: u64) -> bool {
     seen == components
 }
 
-/// Whether the text is two digits for each of so many bytes.
+/// Whether the text is two digits for each of this many bytes.
 fn is_hexadecimal(text: &[u8], bytes: u64) -> bool {
     for digit in text {
         if !b"0123456789abcdef".contains(digit) {
@@ -270,7 +270,7 @@ fn is_hexadecimal(text: &[u8], bytes: u64) -> bool {
     text.len() as u64 == bytes.saturating_mul(2)
 }
 
-/// Whether the text is at most so many numbers below `universe`, each above the one before.
+/// Whether the text is at most this many numbers below `universe`, each above the one before.
 fn is_set(text: &[u8], universe: u64, most: u64) -> bool {
     let mut seen = 0u64;
     let mut least = 0u64;

@@ -1,4 +1,4 @@
--- Rows, pairs of rows, and what is found out of a pair.
+-- Rows, pairs of rows, and the verdict on a pair.
 use Rattle.std.specs.Prelude.{◌≡◌, ℕ, ◌&&◌, Bool, nat_lt, nat_le, List, All, if◌then◌else◌}
 use Rattle.metric_laws.specs.Objects.{Object, Distance}
 use Rattle.metric_laws.specs.Log.{MeasuredPair}
@@ -30,7 +30,7 @@ pair_ids pair = (pair.0.id, pair.1.id)
 abbrev pub pair_objects : Row × Row → MeasuredPair
 pair_objects pair = (pair.0.object, pair.1.object)
 
--- what is found out of the two
+-- the verdict on the two
 abbrev pub verdict_of_pair : Distance → ℕ → Row × Row → Verdict
 verdict_of_pair dist radius pair = verdict_of (pair_verdict pair.0.vect radius pair.1.vect) (nat_le (dist pair.0.object pair.1.object) radius)
 

@@ -1,12 +1,11 @@
--- What is found out of two objects and a radius: what their vectors tell and, where that leaves it open,
--- whether their distance is within the radius.
+-- The verdict on two objects and a radius: by their vectors and, if these leave it open, by their distance.
 use Rattle.std.specs.Prelude.{ℕ, Bool, true, false, if◌then◌else◌}
 use Rattle.pivot_map.specs.declared.verdict.PairTest.{PairTest}
 use Rattle.pivot_map.specs.declared.verdict.PairTest.TheVariants as test
 use Rattle.query_pass.specs.declared.verdict.Verdict.{Verdict}
 use Rattle.query_pass.specs.declared.verdict.Verdict.TheVariants.{Apart, Sure, Measured}
 
--- the verdict, by what the vectors tell and whether the distance is within the radius
+-- the verdict, by what the vectors show and whether the distance is within the radius
 abbrev pub verdict_of : PairTest → Bool → Verdict
 verdict_of test.Apart within = Apart
 verdict_of test.Sure within = Sure

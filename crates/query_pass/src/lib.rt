@@ -1,5 +1,5 @@
-//! A pass over rows or pairs of rows: what is found out of two objects and a radius, by what their
-//! vectors tell and, if that leaves it open, by measuring them; and what has been found so far.
+//! A pass over rows or pairs of rows: the verdict on two objects and a radius, by their vectors
+//! and, if these leave it open, by measuring them; and what has been found so far.
 #![tactic(auto)]
 
 mod found;

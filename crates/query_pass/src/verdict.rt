@@ -1,4 +1,4 @@
-//! What is found out of two objects.
+//! The verdict on two objects.
 ghost use Rattle.std.specs.Prelude.{◌≡◌, ◌+◌, ◌-◌, ◌^◌, ◌<◌, ◌∷◌, [], IsTrue, if◌then◌else◌, nat_le};
 ghost use Rattle.metric_laws.specs.Log.{LogExtends};
 ghost use Rattle.pivot_map.specs.Verdicts.{test_is_open};
@@ -8,12 +8,12 @@ ghost use Rattle.query_pass.specs.Verdicts.{verdict_of, was_measured};
 use metric_laws::Ruler;
 use pivot_map::PairTest;
 
-/// What is found out of two objects and a radius.
+/// The verdict on two objects and a radius.
 #[derive(Clone, Copy, Debug, PartialEq, Eq)]
 pub enum Verdict {
     /// A pivot shows that they are further apart.
     Apart,
-    /// A pivot shows that they are within.
+    /// A pivot shows that they are within the radius.
     Sure,
     /// Their distance was measured, and is within or isn't.
     Measured(bool),
@@ -45,7 +45,7 @@ impl Verdict {
     }
 }
 
-/// The verdict on two objects and the radius `r`, by what their vectors test.
+/// The verdict on two objects and the radius `r`, by the test of their vectors.
 ///
 /// It measures the two if that is [`PairTest::Open`], once. Otherwise it looks at neither, and the two
 /// may be anything: a caller that would have to fetch them first does so only for an open pair. It takes

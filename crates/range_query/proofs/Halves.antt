@@ -1,4 +1,4 @@
--- The pairs of each row with those behind it are those of all rows with all whose left id is the lesser.
+-- The pairs of each row with those after it are those of all rows with all whose left id is the lesser.
 use Rattle.std.proofs.Common.{◌≡◌, ◌≢◌, ℕ, Bool, true, false, List, [], ◌∷◌, ◌++◌, refl, sym, ap, subst, ◌∙◌, append_assoc, arith}
 use Rattle.std.specs.Prelude.{◌&&◌, not, nat_lt, if◌then◌else◌, filter, map, All}
 use Rattle.std.specs.List.{flat_map}
@@ -79,7 +79,7 @@ facing a (c ∷ rows) all =
     (one_way a.0 c.0 (All-head (λ (c : Entry). a.0 ≢ c.0) c rows all))
     (facing a rows (All-tail (λ (c : Entry). a.0 ≢ c.0) c rows all))
 
--- no two rows have one id
+-- no two rows have the same id
 abbrev pub AreDistinct : List Entry → Type 0
 AreDistinct [] = Unit {0}
 AreDistinct (a ∷ rows) = All (λ (c : Entry). a.0 ≢ c.0) rows × AreDistinct rows

@@ -12,7 +12,7 @@ pub record AreAlike (admitted : Object → Type 0) (coordinates : ℕ) (rows : L
   pub objects : All (λ (row : Row). admitted row.object) rows
   pub vectors : All (λ (row : Row). coordinates ≡ length row.vect) rows
 
--- what is found out of the query, by its vector, and a row
+-- the verdict on the query, by its vector, and a row
 abbrev pub verdict_of_row : Distance → List ℕ → List ℕ → ℕ → Row → Verdict
 verdict_of_row dist asked query radius row = verdict_of (query_verdict asked radius row.vect) (nat_le (dist query row.object) radius)
 

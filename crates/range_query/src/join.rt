@@ -16,13 +16,13 @@ use spb_defs::JoinAnswer;
 use spb_edge::{Bytes, Memory};
 use std::alloc::Global;
 
-/// The pairs of a row on the left and one on the right whose objects are within the radius `r` of each
-/// other, exactly as a scan of all pairs would find them. Where `same` is true both sides are one list, and
-/// of each two rows the one with the lesser id is on the left.
+/// The pairs of a row on the left and one on the right whose objects are within the radius `r` of each other, exactly
+/// as a scan of all pairs would find them. If `same` is true both sides are one list, and of each two rows the one with
+/// the lesser id is on the left.
 ///
-/// It measures the pairs of which the pivots tell neither that they are within nor that they aren't. It
-/// needs at most 8 pivots, and on each side at most 2^31 rows by them, no two with one id. It tests the
-/// vectors of each pair of rows once, and takes memory for the answer alone.
+/// It measures the pairs that the pivots leave open. It needs at most 8 pivots, and on each side at most 2^31 rows by
+/// them, no two with the same id. It tests the vectors of each pair of rows once, and takes memory for the answer
+/// alone.
 pub fn join_rows<R: Ruler>(
     alloc: Global,
     left: &[Row],
@@ -64,8 +64,7 @@ fn partners(right: &[Row], same: bool, next: usize) -> &[Row]
     if same { &right[next..] } else { right }
 }
 
-/// Passes over the pairs of the row with each of the others, where `same` is true with the lesser id on the
-/// left.
+/// Passes over the pairs of the row with each of the others; if `same` is true, with the lesser id on the left.
 fn pair_up<R: Ruler>(
     ruler: &mut R,
     row: &Row,
@@ -99,7 +98,7 @@ fn pair_up<R: Ruler>(
     Ok(())
 }
 
-/// The two rows, where `same` is true with the lesser id on the left.
+/// The two rows; if `same` is true, with the lesser id on the left.
 fn in_order<'a>(row: &'a Row, other: &'a Row, same: bool) -> (&'a Row, &'a Row)
     ensures { (result.0.now, result.1.now) ≡ ordered_pair same row.now other.now }
 {

@@ -1,4 +1,4 @@
-//! Ranges and joins, answered with few distances: exactly what a scan of all objects gives.
+//! Ranges and joins, answered with few distance computations: exactly what a scan of all objects gives.
 #![tactic(auto)]
 
 mod join;

@@ -15,9 +15,9 @@ use std::alloc::Global;
 
 /// The rows within the radius `r` of the query, exactly as a scan of all rows would find them.
 ///
-/// It measures the query with each pivot, and then with the objects of which the pivots tell neither that
-/// they are within nor that they aren't, in the order of the rows. It needs at most 8 pivots and 2^31
-/// rows by them, no two with one id. It passes over the rows once, and takes memory for the answer alone.
+/// It measures the query with each pivot, and then with the objects that the pivots leave open, in the order of the
+/// rows. It needs at most 8 pivots and 2^31 rows by them, no two with the same id. It passes over the rows once, and
+/// takes memory for the answer alone.
 pub fn range_rows<R: Ruler>(
     alloc: Global,
     rows: &[Row],

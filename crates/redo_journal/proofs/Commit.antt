@@ -1,4 +1,4 @@
--- What stands on the disk on the way of a commit.
+-- What is on the disk during a commit.
 use Rattle.std.proofs.Common.{◌≡◌, ◌⊎◌, inl, inr, ⊎_elim, slice_index, ℕ, suc, ◌+◌, ◌-◌, ◌*◌, ◌<◌, ◌≤◌, ◌==◌, Bool, true, false, List, [], ◌∷◌, ◌++◌, length, drop, replicate, refl, sym, ◌∙◌, ap, subst, arith, append_assoc}
 use Rattle.std.specs.List.{flat_map}
 use Rattle.std.specs.Map.{keys_of, lookup}
@@ -59,7 +59,7 @@ header_good total ns some few small homes = record {
   homes = subst (AreHomes total 0) (sym (named_back ns few small)) homes;
 }
 
--- pages that stand behind one another are read as they are
+-- pages written one after another are read back
 images_back : (image rest : List ℕ) (i : ℕ) (es : List (ℕ × List ℕ)) → ArePages es → drop (512 * i) image ≡ joined_images es ++ rest → entries_from image i (keys_of es) ≡ es
 images_back image rest i [] whole is = refl
 images_back image rest i (e ∷ es) whole is =
@@ -80,7 +80,7 @@ journal_back image rest es few many small whole is =
           ∙ images_back image rest 5 es whole (page_behind image (header_page (keys_of es)) (joined_images es ++ rest) 4 is long),
     )
 
--- an image whose gate is closed stands for its own pages, and so does each that is alike there
+-- an image whose gate is closed stands for its own pages, and so does each image with the same magic and pages
 pub closed_home : (total : ℕ) (image c marks : List ℕ) (home : ℕ → List ℕ) → RecoversTo total image marks home → has_open_gate image ≡ false → length c ≡ length image → has_open_gate c ≡ false
     → magic c ≡ magic image → ((n : ℕ) → IsHome total n → page c n ≡ page image n) → RecoversTo total c marks home
 closed_home total image c marks home stands closed long closed_too same_magic same = record {
@@ -127,7 +127,7 @@ gate_torn total old c least long torn = record {
   pages_are = λ n pos lt. torn_page 16 1 old c torn n (omega (arith, lt, long)) (inr (omega (arith, pos)));
 }
 
--- the journal of an image where the gate alone may differ
+-- the journal of an image in which only the gate may differ
 pub written_still : (total : ℕ) (es : List (ℕ × List ℕ)) (old c : List ℕ) → 85 ≤ total → GateAlone total old c → IsWritten total es old → IsWritten total es c
 written_still total es old c least alone written = record {
   header = subst (IsHeader total) (sym (alone.pages_are 4 (omega arith) (omega (arith, least)))) written.header;
@@ -164,7 +164,7 @@ gate_opens total es image c marks home stands closed written torn =
     either true opened alone = inr (opened_home total es image c marks home stands closed written alone opened)
     either false closed_too alone = inl (still_home total image c marks home stands closed alone closed_too)
 
--- the whole body was laid
+-- the whole body was written
 pub body_laid : (total : ℕ) (es : List (ℕ × List ℕ)) (header image : List ℕ) → 85 ≤ total → total < 4294967296 → length image ≡ 512 * total → 0 < length es → length es ≤ 80
     → length (keys_of es) ≡ length es → AreHomes total 0 (keys_of es) → ArePages es → header ≡ header_page (keys_of es) → length (header ++ joined_images es) ≡ 512 * (1 + length es)
     → IsWritten total es (overwritten_at image 2048 (header ++ joined_images es)) × (page (overwritten_at image 2048 (header ++ joined_images es)) 4 ≡ header_page (keys_of es))

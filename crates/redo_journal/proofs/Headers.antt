@@ -73,7 +73,7 @@ pub last_push : (last n : ℕ) (ns : List ℕ) → last_of last (ns ++ n ∷ [])
 last_push last n [] = refl
 last_push last n (m ∷ ns) = last_push m n ns
 
--- the first number that isn't in its range, behind those that are
+-- the first number that isn't in its range, after those that are
 pub fails_behind : (total last n : ℕ) (ns rest : List ℕ) → AreHomes total last ns → (IsHome total n → last_of last ns < n → ⊥) → FailsAt total last (ns ++ n ∷ rest) (length ns) n
 fails_behind total last n [] rest homes bad = (refl, bad)
 fails_behind total last n (m ∷ ns) rest homes bad = (homes.0, homes.1, fails_behind total m n ns rest homes.2 bad)

@@ -24,7 +24,7 @@ not_among total last i [] homes outside = refl
 not_among total last i (m ∷ ns) homes outside =
     ap (λ b. b || is_listed i ns) (other_number total m i homes.0 outside) ∙ not_among total m i ns homes.2 outside
 
--- pages with some replaced are alike where those that aren't replaced are
+-- pages with some replaced are equal if those that aren't replaced are
 over_step : (b : Bool) (p : List ℕ) (found : Option (List ℕ)) (among : Bool) (f g : List ℕ) → ((b || among) ≡ false → f ≡ g)
     → ((among ≡ false → f ≡ g) → page_or found f ≡ page_or found g) → page_or (cond b (Some p) found) f ≡ page_or (cond b (Some p) found) g
 over_step true p found among f g same rest = refl
@@ -43,7 +43,7 @@ images_same old new i (n ∷ ns) same =
     ap (λ p. (n, p) ∷ entries_from new (suc i) ns) (same i (omega arith) (omega arith))
     ∙ ap (λ es. (n, page old i) ∷ es) (images_same old new (suc i) ns (λ k low high. same k (omega (arith, low)) (omega (arith, high))))
 
--- the journal is the same where its pages are
+-- the journal is the same if its pages are
 pub journal_same : (old new : List ℕ) → image_count (page old 4) ≤ 80 → ((k : ℕ) → 4 ≤ k → k < 85 → page new k ≡ page old k) → journal_entries new ≡ journal_entries old
 unfolding journal_entries
 journal_same old new few same =
@@ -70,8 +70,7 @@ pub home_positive : (total n : ℕ) → IsHome total n → 0 < n
 home_positive total n (inl low) = low.0
 home_positive total n (inr high) = omega (arith, high)
 
--- The law: where the gate is open, an image that differs only within the pages that the header names
--- stands for the same.
+-- The law: if the gate is open, an image that differs only within the pages that the header names stands for the same.
 pub survives : (total : ℕ) (image other marks : List ℕ) (home : ℕ → List ℕ) → RecoversTo total image marks home → IsTrue (has_open_gate image)
     → DiffersWithin total (page_numbers (page image 4)) image other → RecoversTo total other marks home
 survives total image other marks home stands opened differs =

@@ -1,4 +1,4 @@
--- The images of the journal, taken from the disk behind one another.
+-- The images of the journal, taken from the disk one after another.
 use Rattle.std.proofs.Common.{◌≡◌, ℕ, suc, ◌+◌, ◌*◌, List, [], ◌∷◌, ◌++◌, length, take, drop, refl, ◌∙◌, ap, arith, append_assoc}
 use Rattle.std.proofs.lemmas.List.{drop-take, drop-drop, take_at, drop_at}
 use Rattle.redo_journal.specs.Header.{page_numbers}
@@ -7,7 +7,7 @@ use Rattle.redo_journal.specs.Redo.{entries_from, journal_entries}
 use Rattle.redo_journal.specs.Change.{page_entries}
 use Rattle.redo_journal.proofs.Pages.{page_front}
 
--- so many pages from a place on are the images there
+-- this many pages from a place on are the images there
 pub images_read : (image : List ℕ) (i : ℕ) (ns : List ℕ) → page_entries 512 ns (take (512 * length ns) (drop (512 * i) image)) ≡ entries_from image i ns
 images_read image i [] = refl
 images_read image i (n ∷ ns) =
@@ -25,7 +25,7 @@ pub journal_by : (image header numbers : List ℕ) → header ≡ page image 4 �
 unfolding journal_entries
 journal_by image header numbers is are = ap (entries_from image 5) (are ∙ ap page_numbers is)
 
--- what was read behind the header, of a buffer that was lent and taken back
+-- what was read after the header, into a buffer that was borrowed
 pub behind_header : (first read rest more : List ℕ) (count whole : ℕ) → length first ≡ 512 → length read ≡ count → whole ≡ 512 + count
     → drop 512 (take whole (first ++ (read ++ rest) ++ more)) ≡ read
 behind_header first read rest more count whole page long is =

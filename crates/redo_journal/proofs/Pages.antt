@@ -7,7 +7,7 @@ use Rattle.spb_edge.specs.Disk.{overwritten_at}
 use Rattle.spb_edge.specs.Tears.{overwritten_at-in}
 use Rattle.redo_journal.specs.Pages.{page, gate, magic}
 
--- parts of two lists that are alike item by item
+-- parts of two lists that are equal item by item
 part_same : (old new : List ℕ) (from count : ℕ) → from + count ≤ length old → length old ≤ length new
     → ((k : ℕ) → k < count → slice_index new (from + k) ≡ slice_index old (from + k)) → take count (drop from new) ≡ take count (drop from old)
 part_same old new from count within longer same =
@@ -37,7 +37,7 @@ module _ (at count : ℕ) (old new : List ℕ) (torn : IsTornWrite at count old 
   unfolding magic
   torn_magic long behind = part_same old new 0 8 long torn.no_shorter (λ k lt. torn.alike (0 + k) (omega (arith, lt, long)) (inl (omega (arith, lt, behind))))
 
--- a page that was laid
+-- a page that was written
 pub laid_page : (image bytes : List ℕ) (n : ℕ) → 512 * n + 512 ≤ length image → length bytes ≡ 512 → page (overwritten_at image (512 * n) bytes) n ≡ bytes
 unfolding page
 laid_page image bytes n within whole =
@@ -45,18 +45,18 @@ laid_page image bytes n within whole =
     ∙ drop_at (take (512 * n) image) (bytes ++ drop (512 * n + length bytes) image) (512 * n) (length-take-le (512 * n) image (omega (arith, within))))
     ∙ take_at bytes (drop (512 * n + length bytes) image) 512 whole
 
--- the gate that was laid
+-- the gate that was written
 pub laid_gate : (image : List ℕ) (value : ℕ) → 17 ≤ length image → gate (overwritten_at image 16 (value ∷ [])) ≡ value
 unfolding gate
 laid_gate image value long = overwritten_at-in image 16 (value ∷ []) (omega (arith, long)) 0 (omega arith)
 
--- what stands behind the place of a write
+-- what follows the place of a write
 pub drop_laid : (image bytes : List ℕ) (at : ℕ) → at ≤ length image → drop at (overwritten_at image at bytes) ≡ bytes ++ drop (at + length bytes) image
 drop_laid image bytes at within =
     ap (drop at) (append_assoc (take at image) bytes (drop (at + length bytes) image))
     ∙ drop_at (take at image) (bytes ++ drop (at + length bytes) image) at (length-take-le at image within)
 
--- a page by what stands from its place on, and what stands behind it
+-- a page by the bytes from its place on, and those after it
 pub page_is : (image first rest : List ℕ) (n : ℕ) → drop (512 * n) image ≡ first ++ rest → length first ≡ 512 → page image n ≡ first
 unfolding page
 page_is image first rest n is whole = ap (take 512) is ∙ take_at first rest 512 whole
@@ -92,7 +92,7 @@ pub magic_same : (old new : List ℕ) → 8 ≤ length old → length old ≤ le
 unfolding magic
 magic_same old new long longer same = part_same old new 0 8 long longer (λ k lt. same (0 + k) (omega (arith, lt)))
 
--- a page at the front of more
+-- a page at the start of more bytes
 pub page_front : (image : List ℕ) (n more : ℕ) → 512 ≤ more → take 512 (take more (drop (512 * n) image)) ≡ page image n
 unfolding page
 page_front image n more fits = take-take 512 more (drop (512 * n) image) fits

@@ -1,4 +1,4 @@
--- Pages behind one another, and their numbers: taken apart, replaced, and with one more between them.
+-- Pages one after another, and their numbers: taken apart, replaced, and with one more between them.
 use Rattle.std.proofs.Common.{◌≡◌, inl, inr, ⊎_elim, Result, Ok, Err, OnOk, ℕ, zero, suc, ◌+◌, ◌*◌, ◌<◌, ◌≤◌, ◌==◌, Bool, true, false, cond, Option, Some, None, IsSome, List, [], ◌∷◌, ◌++◌, length, take, drop, get_or, refl, sym, ◌∙◌, ap, subst, arith, append_assoc, length-append}
 use Rattle.std.specs.List.{insert}
 use Rattle.std.specs.Map.{keys_of, lookup}
@@ -23,7 +23,7 @@ pub keys-page_entries : (size : ℕ) (ns bytes : List ℕ) → keys_of (page_ent
 keys-page_entries size [] bytes = refl
 keys-page_entries size (n ∷ ns) bytes = ap (λ ks. n ∷ ks) (keys-page_entries size ns (drop size bytes))
 
--- behind one another the pages are the bytes
+-- one after another the pages are the bytes
 pub joined-page_entries : (ns bytes : List ℕ) → length bytes ≡ 512 * length ns → joined_images (page_entries 512 ns bytes) ≡ bytes
 joined-page_entries [] [] long = refl
 joined-page_entries [] (b ∷ bs) long = absurd (omega (arith, long))
@@ -76,7 +76,7 @@ less n m lt = sym (nat_cmp_is n m Less lt)
 equal : (n m : ℕ) → n ≡ m → nat_cmp n m ≡ Equal
 equal n m is = sym (nat_cmp_is n m Equal is)
 
--- a page with its number goes in front, in the place of the first, or behind the first
+-- a page with its number goes before the first, in its place, or after it
 module _ (n m : ℕ) (page first : List ℕ) (es : List (ℕ × List ℕ)) where
   goes_first : n < m → with_page ((m, first) ∷ es) n page ≡ (n, page) ∷ (m, first) ∷ es
   goes_first lt = ap (λ o. match_ordering o ((n, page) ∷ (m, first) ∷ es) ((m, page) ∷ es) ((m, first) ∷ with_page es n page)) (less n m lt)
@@ -97,13 +97,13 @@ pub with_page-some : (es : List (ℕ × List ℕ)) (n : ℕ) (page : List ℕ) �
 with_page-some [] n page = omega arith
 with_page-some (e ∷ es) n page = some_of (nat_cmp n e.0) ((n, page) ∷ e ∷ es) ((e.0, page) ∷ es) (e ∷ with_page es n page) (omega arith) (omega arith) (omega arith)
 
--- a first page, and then what stands behind it
+-- a first page, and then those after it
 paired_on : (m : ℕ) (ns first rest : List ℕ) → length first ≡ 512 → page_entries 512 (m ∷ ns) (first ++ rest) ≡ (m, first) ∷ page_entries 512 ns rest
 paired_on m ns first rest whole =
     ap (λ p. (m, p) ∷ page_entries 512 ns (drop 512 (first ++ rest))) (take_at first rest 512 whole)
     ∙ ap (λ xs. (m, first) ∷ page_entries 512 ns xs) (drop_at first rest 512 whole)
 
--- what stands behind the first page, where a page further on is put or replaced
+-- what follows the first page, if a later page is put in or replaced
 split_on : (place : ℕ) (bytes tail : List ℕ) → take (512 * suc place) bytes ++ tail ≡ take 512 bytes ++ (take (512 * place) (drop 512 bytes) ++ tail)
 split_on place bytes tail = ap (λ xs. xs ++ tail) (sym (front place bytes)) ∙ append_assoc (take 512 bytes) (take (512 * place) (drop 512 bytes)) tail
 
@@ -126,7 +126,7 @@ replaced (suc place) total last n (m ∷ ns) bytes page homes lt is whole fits =
     ∙ sym (goes_behind n m page (take 512 bytes) (page_entries 512 ns (drop 512 bytes)) (later place ns m total n homes.2 (omega (arith, lt)) is))
 replaced place total last n [] bytes page homes lt is whole fits = absurd (omega (arith, lt))
 
--- a page joins the others
+-- a page is added to the others
 pub joins : (place n : ℕ) (ns bytes page : List ℕ) → place ≤ length ns → ((k : ℕ) → k < place → get_or ns k 0 < n) → ((k : ℕ) → place ≤ k → k < length ns → n < get_or ns k 0)
     → length page ≡ 512 → 512 * length ns ≤ length bytes
     → page_entries 512 (insert ns place n) (take (512 * place) bytes ++ (page ++ drop (512 * place) bytes)) ≡ with_page (page_entries 512 ns bytes) n page
@@ -178,7 +178,7 @@ pub positive : (total n : ℕ) → IsHome total n → 0 < n
 positive total n (inl low) = low.0
 positive total n (inr high) = omega (arith, high)
 
--- a number joins the others
+-- a number is added to the others
 pub homes_insert : (total last place n : ℕ) (ns : List ℕ) → AreHomes total last ns → IsHome total n → last < n → place ≤ length ns → ((k : ℕ) → k < place → get_or ns k 0 < n)
     → ((k : ℕ) → place ≤ k → k < length ns → n < get_or ns k 0) → AreHomes total last (insert ns place n)
 homes_insert total last zero n [] homes home rise le below above = (home, rise, tt)
@@ -187,7 +187,7 @@ homes_insert total last (suc place) n (m ∷ ns) homes home rise le below above 
     (homes.0, homes.1, homes_insert total m place n ns homes.2 home (below 0 (omega arith)) (omega (arith, le)) (λ k lt. below (suc k) (omega (arith, lt))) (λ k ge lt. above (suc k) (omega (arith, ge)) (omega (arith, lt))))
 homes_insert total last (suc place) n [] homes home rise le below above = absurd (omega (arith, le))
 
--- behind the header: what stands after a page is replaced at a place, or put there
+-- after the header: the bytes once a page is replaced at a place, or put there
 split_behind : (place tail : ℕ) (body page : List ℕ) → 512 * (place + 1) ≤ length body
     → drop 512 (take (512 * (place + 1)) body ++ (page ++ drop tail body)) ≡ take (512 * place) (drop 512 body) ++ (page ++ drop tail body)
 split_behind place tail body page within =

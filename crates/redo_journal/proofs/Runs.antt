@@ -29,7 +29,7 @@ module _ {D : Type 0} (moment : D → ℕ) (crash_states_since : D → ℕ → L
       (weaker moment crash_states_since start written (DiffersWithin total (keys_of es) (image start)) (λ c. RecoversTo total c marks home) as_home run) time
       (λ c now. as_home c (crash c (within c now)))
 
-  -- and the gate was written behind them
+  -- and then the gate was written
   pub settled : (start synced now : D) → AreHomes total 0 (keys_of es) → HoldsChange es (image start) → RecoversTo total (image start) marks home → CrashesLeaveOnly moment crash_states_since start synced (λ c. RecoversTo total c marks home)
       → AreInPlace es (image synced) → DiffersWithin total (keys_of es) (image start) (image synced)
       → CrashesLeaveOnly moment crash_states_since synced now (IsTornWrite 16 1 (image synced)) → CrashesLeaveOnly moment crash_states_since start now (λ c. RecoversTo total c marks home)
@@ -45,7 +45,7 @@ module _ {D : Type 0} (moment : D → ℕ) (crash_states_since : D → ℕ → L
       weaker moment crash_states_since start written (IsTornWrite 2048 (512 * (1 + length es)) (image start)) (IsBeforeOrAfter total es marks home)
       (λ c torn. inl (body_torn total (length es) (image start) c marks home stands closed few torn).0) run
 
-  -- and the gate was written behind it
+  -- and then the gate was written
   pub committed : (start written now : D) → CrashesLeaveOnly moment crash_states_since start written (IsBeforeOrAfter total es marks home) → RecoversTo total (image written) marks home → has_open_gate (image written) ≡ false
       → IsWritten total es (image written) → CrashesLeaveOnly moment crash_states_since written now (IsTornWrite 16 1 (image written)) → CrashesLeaveOnly moment crash_states_since start now (IsBeforeOrAfter total es marks home)
   committed start written now so_far stands closed is_written run =
@@ -56,7 +56,7 @@ length-keys : (es : List (ℕ × List ℕ)) → length (keys_of es) ≡ length e
 length-keys [] = refl
 length-keys (e ∷ es) = ap suc (length-keys es)
 
--- what a body that was laid leaves: the same home, the gate closed, and the change in the journal
+-- a body was written: the same home, the gate closed, and the change in the journal
 pub record HasBody (total : ℕ) (es : List (ℕ × List ℕ)) (old new : List ℕ) : Type 0 where
   pub is_written : IsWritten total es new
   pub header_is : page new 4 ≡ header_page (keys_of es)
@@ -77,7 +77,7 @@ has_body staged header body old new sound some least size header_is body_is long
       stands = λ marks home stands closed. body_torn staged.total (length staged.pages) old new marks home stands closed sound.few torn;
     }
 
--- the gate was laid over a body: the commit is done
+-- the gate was written after the body: the commit is done
 pub commits : (total : ℕ) (es : List (ℕ × List ℕ)) (old written new : List ℕ) → 85 ≤ total → length old ≡ 512 * total → HasBody total es old written
     → new ≡ overwritten_at written 16 (1 ∷ []) → Commits total es old new
 commits total es old written new least size body is =
@@ -99,7 +99,7 @@ recovered moment crash_states_since start found now P Q before after =
     (weaker moment crash_states_since start found P (λ c. P c ⊎ Q c) (λ c has. inl has) before)
     (weaker moment crash_states_since found now Q (λ c. P c ⊎ Q c) (λ c has. inr has) after)
 
--- where nothing was pending, what might have been left has the home too
+-- if nothing was pending, what might have been left has the home too
 pub stood : {D : Type 0} (moment : D → ℕ) (crash_states_since : D → ℕ → List ℕ → Type 0) (start now : D) (total : ℕ) (image : List ℕ) (crash_states : List ℕ → Type 0) (marks : List ℕ) (home : ℕ → List ℕ)
     → IsDurable image crash_states → RecoversTo total image marks home → CrashesLeaveOnly moment crash_states_since start now (λ c. crash_states c ⊎ RecoversTo total c marks home)
     → CrashesLeaveOnly moment crash_states_since start now (λ c. RecoversTo total c marks home)

@@ -1,4 +1,4 @@
--- What stands on the disk while the pages of a change go home.
+-- What is on the disk while the pages of a change go home.
 use Rattle.std.proofs.Common.{◌≡◌, ◌⊎◌, inl, inr, ⊎_elim, ℕ, suc, ◌+◌, ◌*◌, ◌<◌, ◌≤◌, ◌==◌, ◌||◌, Bool, true, false, cond, if◌then◌else◌, Option, Some, Result, Ok, Err, OnOk, List, [], ◌∷◌, ◌++◌, length, take, drop, slice_index, refl, sym, ◌∙◌, ap, subst, arith}
 use Rattle.std.specs.Map.{keys_of, lookup}
 use Rattle.std.proofs.lemmas.Bool.{false≢true, cases_lt}
@@ -20,7 +20,7 @@ use Rattle.redo_journal.proofs.Commit.{GateAlone, gate_torn}
 apart : (m n : ℕ) (numbers : List ℕ) → is_listed m numbers ≡ false → is_listed n numbers ≡ true → m ≡ n → ⊥
 apart m n numbers free among is = false≢true (sym free ∙ ap (λ k. is_listed k numbers) is ∙ among)
 
--- a page of the change goes home: what was alike elsewhere stays alike
+-- a page of the change goes home: what was equal elsewhere stays equal
 pub page_goes_home : (total n : ℕ) (numbers start old c : List ℕ) → n < total → length start ≡ 512 * total → is_listed n numbers ≡ true
     → DiffersWithin total numbers start old → IsTornWrite (512 * n) 512 old c → DiffersWithin total numbers start c
 page_goes_home total n numbers start old c within long among so_far torn =
@@ -78,7 +78,7 @@ pub placed_on : (total n : ℕ) (p : List ℕ) (es before after : List (ℕ × L
 placed_on total n p es before after old new is homes within torn there placed =
     placed_push before n p new (placed_kept n before old new (before_below total 0 n p before after (subst (λ l. AreHomes total 0 (keys_of l)) is homes)) within torn placed) there
 
--- where all pages are home, each page is as the recovery would have it
+-- if all pages are home, each page is as the recovery would have it
 over_placed : (b : Bool) (found : Option (List ℕ)) (p f here : List ℕ) (among : Bool) → (b ≡ true → here ≡ p) → ((b || among) ≡ false → here ≡ f)
     → ((among ≡ false → here ≡ f) → here ≡ page_or found f) → here ≡ page_or (cond b (Some p) found) f
 over_placed true found p f here among is same rest = is refl
@@ -124,14 +124,14 @@ module _ (total : ℕ) (es : List (ℕ × List ℕ)) (start now : List ℕ) (lea
       survives total start now marks home stands holds.is_opened
       (subst (λ (ns : List ℕ). DiffersWithin total ns start now) (sym (ap keys_of holds.journal_is) ∙ keys-journal start) differs)
 
-  -- and where all pages are home, each is as the recovery would have it
+  -- and if all pages are home, each is as the recovery would have it
   pub placed_redone : AreInPlace es now → (n : ℕ) → n < total → page now n ≡ redo_page start n
   placed_redone placed n lt =
       placed_over es now (page start) n placed (λ free. differs.pages_are n lt free)
       ∙ ap (λ l. overlay l (page start) n) (sym holds.journal_is)
       ∙ sym (redo_opened start n holds.is_opened)
 
-  -- with the gate closed behind them
+  -- with the gate closed after them
   pub closed_redone : (c : List ℕ) → AreInPlace es now → GateAlone total now c → has_open_gate c ≡ false → IsClosed total start c
   closed_redone c placed alone closed = record {
     size = alone.size ∙ differs.size;
@@ -220,7 +220,7 @@ gate_closes total es start now c marks home homes holds differs placed alone sta
     either true opened =
         open_alike total now c marks home alone (still_open total es start now stands.least homes holds differs) opened (differs_home total es start now stands.least homes holds differs marks home stands)
 
--- the gate was laid: nothing else changed
+-- the gate was written: nothing else changed
 pub gate_laid : (total value : ℕ) (old new : List ℕ) → 85 ≤ total → length old ≡ 512 * total → new ≡ overwritten_at old 16 (value ∷ []) → GateAlone total old new × (gate new ≡ value)
 gate_laid total value old new least long is = (
   gate_torn total old new least long (subst (IsTornWrite 16 1 old) (sym is) (torn-overwritten_at old 16 (value ∷ []) (omega (arith, least, long)))),
@@ -232,7 +232,7 @@ take_one place es e is le =
     let at : place + 1 ≡ length (take place es) + 1 = omega (arith, length-take-le place es le) in
     ap (take (place + 1)) is ∙ ap (λ k. take k (take place es ++ e ∷ drop (place + 1) es)) at ∙ take-append-add (take place es) (e ∷ drop (place + 1) es) 1
 
--- the next page of the change was laid in its place
+-- the next page of the change was written to its place
 pub goes_home : (total n place : ℕ) (p start old new : List ℕ) (es : List (ℕ × List ℕ)) → es ≡ take place es ++ (n, p) ∷ drop (place + 1) es → place < length es
     → AreHomes total 0 (keys_of es) → n < total → length start ≡ 512 * total → length p ≡ 512 → new ≡ overwritten_at old (512 * n) p
     → AreInPlace (take place es) old → DiffersWithin total (keys_of es) start old → AreInPlace (take (place + 1) es) new × DiffersWithin total (keys_of es) start new

@@ -78,7 +78,7 @@ numbers_then (e ∷ es) n page m = by_order n e.0 page e.1 es (λ l. is_listed m
 pub joins_one : (es : List (ℕ × List ℕ)) (n : ℕ) (page : List ℕ) → AddsOne n es (with_page es n page)
 joins_one es n page = record { no_fewer = (longer es n page).0; one_more = (longer es n page).1; numbers_are = numbers_then es n page }
 
--- an entry that stands among rising ones is found by its number
+-- an entry among ascending ones is found by its number
 pub found_among : (total last n : ℕ) (page : List ℕ) (before after : List (ℕ × List ℕ)) → AreHomes total last (keys_of (before ++ (n, page) ∷ after))
     → (lookup (λ m. m == n) (before ++ (n, page) ∷ after) ≡ Some page) × (last < n)
 found_among total last n page [] after homes = (ap (λ b. cond b (Some page) (lookup (λ m. m == n) after)) (same_number n n refl), homes.1)

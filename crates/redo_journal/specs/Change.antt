@@ -1,4 +1,4 @@
--- A change on its way: the pages that are staged, and how they stand in the journal.
+-- A change in progress: the pages that are staged, and how they are laid out in the journal.
 use Rattle.std.specs.Prelude.{◌≡◌, ◌⊎◌, ℕ, ◌+◌, ◌*◌, ◌<◌, ◌≤◌, Bool, true, false, IsTrue, if◌then◌else◌, List, [], ◌∷◌, length, take, drop, slice_index, ◌==◌, None, IsSome, Result, Ok, Err}
 use Rattle.std.specs.List.{flat_map}
 use Rattle.std.specs.Map.{lookup, keys_of}
@@ -13,7 +13,7 @@ use Rattle.redo_journal.specs.declared.layout.TheConstants.{PAGE_SIZE, CHANGE_LI
 use Rattle.redo_journal.specs.Header.{header_page, AreHomes, IsHeader, IsFirstBad}
 use Rattle.redo_journal.specs.Redo.{has_open_gate, journal_entries, redo_page, RecoversTo, overlay}
 
--- the pages of a change by their numbers: bytes behind one another, a page each
+-- the pages of a change by their numbers: bytes one after another, a page each
 abbrev pub page_entries : ℕ → List ℕ → List ℕ → List (ℕ × List ℕ)
 page_entries size [] bytes = []
 page_entries size (n ∷ ns) bytes = (n, take size bytes) ∷ page_entries size ns (drop size bytes)
@@ -23,7 +23,7 @@ abbrev pub ArePages : List (ℕ × List ℕ) → Type 0
 ArePages [] = Unit {0}
 ArePages (e ∷ es) = (length e.1 ≡ PAGE_SIZE) × ArePages es
 
--- the images of a change, behind one another
+-- the images of a change, one after another
 abbrev pub joined_images : List (ℕ × List ℕ) → List ℕ
 joined_images entries = flat_map (λ (e : ℕ × List ℕ). e.1) entries
 
@@ -31,7 +31,7 @@ joined_images entries = flat_map (λ (e : ℕ × List ℕ). e.1) entries
 abbrev pub with_page : List (ℕ × List ℕ) → ℕ → List ℕ → List (ℕ × List ℕ)
 with_page entries n page = insert_entry nat_cmp entries n page
 
--- the numbers are homes and rise; each has its page behind the header's, and there is room for all
+-- the numbers are homes and rise; each has its page after the header's, and there is room for all
 pub record IsStaged (total : ℕ) (numbers body : List ℕ) (capacity : ℕ) : Type 0 where
   pub small : total < 4294967296
   pub homes : AreHomes total 0 numbers
@@ -43,28 +43,28 @@ pub record IsStaged (total : ℕ) (numbers body : List ℕ) (capacity : ℕ) : T
 abbrev pub IsNonDecreasing : List ℕ → Type 0
 IsNonDecreasing numbers = (i j : ℕ) → i ≤ j → j < length numbers → slice_index numbers i ≤ slice_index numbers j
 
--- the number stands at this place
+-- the number is at this place
 abbrev pub IsPlaceOf : List ℕ → ℕ → ℕ → Type 0
 IsPlaceOf numbers n place = (place < length numbers) × (slice_index numbers place ≡ n)
 
--- it stands nowhere, and belongs before this place
+-- the number is absent, and belongs before this place
 abbrev pub IsBetween : List ℕ → ℕ → ℕ → Type 0
 IsBetween numbers n place = (place ≤ length numbers) × ((k : ℕ) → k < place → slice_index numbers k < n)
     × ((k : ℕ) → place ≤ k → k < length numbers → n < slice_index numbers k)
 
--- a change on its way: of a file of so many pages, its header's page, and its pages by their numbers
+-- a change in progress: of a file of this many pages, its header's page, and its pages by their numbers
 pub record StagedPages : Type 0 where
   pub total : ℕ
   pub header : List ℕ
   pub pages : List (ℕ × List ℕ)
 
--- A page takes the place of the one with its number, or joins the others; it is refused if a change may
--- have no further one, and nothing changes then.
+-- A page replaces the one with its number, or is added; it is refused if a change may have no more, and then nothing
+-- changes.
 abbrev pub Stages : Result Unit StageError → List (ℕ × List ℕ) → ℕ → List ℕ → List (ℕ × List ℕ) → Type 0
 Stages (Ok _) old n page new = (new ≡ with_page old n page) × ((length old < CHANGE_LIMIT) ⊎ IsSome (lookup (λ m. m == n) old))
 Stages (Err _) old n page new = (new ≡ old) × (length old ≡ CHANGE_LIMIT) × (lookup (λ m. m == n) old ≡ None)
 
--- what holds of every change on its way: as many whole pages as one may have or fewer, and their
+-- what holds of every change in progress: as many whole pages as one may have or fewer, and their
 -- numbers are homes and rise
 pub record IsChange (staged : StagedPages) : Type 0 where
   pub few : length staged.pages ≤ CHANGE_LIMIT
@@ -77,7 +77,7 @@ pub record HoldsChange (entries : List (ℕ × List ℕ)) (image : List ℕ) : T
   pub is_opened : has_open_gate image ≡ true
   pub journal_is : journal_entries image ≡ entries
 
--- each page of a change stands in its place
+-- each page of a change is in its place
 abbrev pub AreInPlace : List (ℕ × List ℕ) → List ℕ → Type 0
 AreInPlace [] image = Unit {0}
 AreInPlace (e ∷ es) image = (page image e.0 ≡ e.1) × AreInPlace es image
@@ -109,8 +109,8 @@ ReadsChange total (Ok true) image pages = (has_open_gate image ≡ true) × IsHe
 ReadsChange total (Err recover.DiskFault) image pages = Unit {0}
 ReadsChange total (Err (recover.BadHeader field)) image pages = (has_open_gate image ≡ true) × IsFirstBad total (page image HEADER_PAGE) field
 
--- what a recovery leaves: the image as redone, or as it was where the gate is open over a header whose
--- first field out of its range is named
+-- what a recovery leaves: the image as redone, or as it was if the gate is open over a header whose first field out of
+-- its range is named
 abbrev pub Recovers : ℕ → Result Unit RecoverError → List ℕ → List ℕ → Type 0
 Recovers total (Ok _) old new = (IsTrue (has_open_gate old) → IsHeader total (page old HEADER_PAGE)) × IsRedone total old new
 Recovers total (Err recover.DiskFault) old new = Unit {0}
@@ -122,7 +122,7 @@ OnBadHeader (Ok _) P = Unit {0}
 OnBadHeader (Err recover.DiskFault) P = Unit {0}
 OnBadHeader (Err (recover.BadHeader field)) P = P
 
--- a fault is answered only where it was counted
+-- a fault is answered only if it was counted
 abbrev pub CountsRecoverFault : {A : Type 0} → Result A RecoverError → ℕ → ℕ → Type 0
 CountsRecoverFault (Ok _) before now = before ≤ now
 CountsRecoverFault (Err recover.DiskFault) before now = (before ≤ now) × HasRisen before now

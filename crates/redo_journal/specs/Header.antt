@@ -19,7 +19,7 @@ number_bytes n = big_bytes 4 n
 abbrev pub image_count : List ℕ → ℕ
 image_count header = leading_number header
 
--- so many numbers of four bytes each, the highest byte first
+-- this many numbers of four bytes each, the highest byte first
 abbrev pub numbers_in : ℕ → List ℕ → List ℕ
 numbers_in zero bytes = []
 numbers_in (suc n) bytes = leading_number bytes ∷ numbers_in n (drop 4 bytes)
@@ -36,7 +36,7 @@ header_page numbers = number_bytes (length numbers) ++ (replicate 4 0 ++ (flat_m
 abbrev pub IsCount : ℕ → Type 0
 IsCount count = (1 ≤ count) × (count ≤ CHANGE_LIMIT)
 
--- numbers in their ranges: pages that a change may replace, rising strictly from behind the last one
+-- numbers in their ranges: pages that a change may replace, strictly ascending, all after the last one
 abbrev pub AreHomes : ℕ → ℕ → List ℕ → Type 0
 AreHomes total last [] = Unit {0}
 AreHomes total last (n ∷ ns) = IsHome total n × (last < n) × AreHomes total n ns

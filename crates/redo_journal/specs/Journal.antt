@@ -12,7 +12,7 @@ module _ {D : Type 0} where
   abbrev pub total_of : Journal D → ℕ
   total_of journal = journal.staged.total
 
-  -- the pages that are staged, in rising order of their numbers
+  -- the pages that are staged, in ascending order of their numbers
   abbrev pub staged_of : Journal D → List (ℕ × List ℕ)
   staged_of journal = journal.staged.pages
 

@@ -27,12 +27,12 @@ page_or None old = old
 abbrev pub overlay : List (ℕ × List ℕ) → (ℕ → List ℕ) → ℕ → List ℕ
 overlay entries pages n = page_or (lookup (λ m. m == n) entries) (pages n)
 
--- page n as a recovery would leave it: where the gate is open, the journal's image of it replaces it
+-- page n as a recovery would leave it: if the gate is open, the journal's image of it replaces it
 abbrev pub redo_page : List ℕ → ℕ → List ℕ
 redo_page image n = if has_open_gate image then overlay (journal_entries image) (page image) n else page image n
 
--- The image has so many pages, those of the journal among them; where its gate is open, the header is in
--- its ranges; and it stands for this magic and these pages.
+-- The image has this many pages, those of the journal among them; if its gate is open, the header is in its ranges; and
+-- it stands for this magic and these pages.
 pub record RecoversTo (total : ℕ) (image marks : List ℕ) (home : ℕ → List ℕ) : Type 0 where
   pub least : LEAST_PAGES ≤ total
   pub size : length image ≡ PAGE_SIZE * total

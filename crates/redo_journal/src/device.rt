@@ -12,8 +12,8 @@ ghost use Rattle.redo_journal.specs.Growth.{CountsGrowFault};
 use crate::{DiskFault, GrowError};
 use spb_edge::{Disk, DiskError};
 
-/// Lays bytes over the disk from `at` on, within its size. Until a sync succeeds, a crash may leave any
-/// bytes in this range. `DiskFault` comes only if the disk counted a fault in this call. One device call.
+/// Overwrites the disk with the bytes from `at` on, within its size. Until a sync succeeds, a crash may leave any bytes
+/// in this range. `DiskFault` comes only if the disk counted a fault in this call. One device call.
 pub fn write_piece<D: Disk>(disk: &mut D, at: u64, bytes: &[u8]) -> Result<(), DiskFault>
     requires { at + length bytes.now ≤ D.size_of disk.old }
     ensures image { IsTrue (D.is_known disk.old) → OnOk result (D.image disk.new ≡ overwritten_at (D.image disk.old) at bytes.now) }
@@ -29,8 +29,8 @@ pub fn write_piece<D: Disk>(disk: &mut D, at: u64, bytes: &[u8]) -> Result<(), D
     }
 }
 
-/// Fills `into` with the bytes from `at` on, which lie within the disk's size. `DiskFault` comes only if
-/// the disk counted a fault in this call. One device call.
+/// Fills `into` with the bytes from `at` on, which are within the disk's size. `DiskFault` comes only if the disk
+/// counted a fault in this call. One device call.
 pub fn read_piece<D: Disk>(disk: &mut D, at: u64, into: &mut [u8]) -> Result<(), DiskFault>
     requires { at + length into.old ≤ D.size_of disk.old }
     ensures data { IsTrue (D.is_known disk.old) → OnOk result (into.new ≡ take (length into.old) (drop at (D.image disk.old))) }
@@ -47,8 +47,8 @@ pub fn read_piece<D: Disk>(disk: &mut D, at: u64, into: &mut [u8]) -> Result<(),
     }
 }
 
-/// Asks that what was written be kept: after Ok a crash leaves the image as it reads. `DiskFault` comes
-/// only if the disk counted a fault in this call. One device call.
+/// Syncs what was written: after Ok the image as it reads is the only crash state. `DiskFault` comes only if the disk
+/// counted a fault in this call. One device call.
 pub fn sync_all<D: Disk>(disk: &mut D) -> Result<(), DiskFault>
     ensures kept { IsTrue (D.is_known disk.old) → IsTrue (D.knows_crashes disk.old) → OnOk result (IsDurable (D.image disk.new) (D.crash_states disk.new)) }
     ensures image { IsTrue (D.is_known disk.old) → D.image disk.new ≡ D.image disk.old }
@@ -64,11 +64,10 @@ pub fn sync_all<D: Disk>(disk: &mut D) -> Result<(), DiskFault>
     }
 }
 
-/// Lays bytes over the disk from `at` on, within its size, and has them kept: a write and a sync.
+/// Overwrites the disk with the bytes from `at` on, within its size, and syncs.
 ///
-/// If nothing was pending, a crash on the way leaves the image as it was but for the bytes of this write.
-/// After Ok nothing is pending. `DiskFault` comes only if the disk counted a fault in this call. At most
-/// two device calls.
+/// If nothing was pending, a crash during the call leaves the image as it was but for the bytes of this write. After Ok
+/// nothing is pending. `DiskFault` comes only if the disk counted a fault in this call. At most two device calls.
 pub fn write_and_keep<D: Disk>(disk: &mut D, at: u64, bytes: &[u8]) -> Result<(), DiskFault>
     requires { at + length bytes.now ≤ D.size_of disk.old }
     ensures image { IsTrue (D.is_known disk.old) → OnOk result (D.image disk.new ≡ overwritten_at (D.image disk.old) at bytes.now) }
@@ -82,8 +81,8 @@ pub fn write_and_keep<D: Disk>(disk: &mut D, at: u64, bytes: &[u8]) -> Result<()
     sync_all(disk)
 }
 
-/// Lays bytes over the disk from `at` on, at most its end, and so may make it longer. Until a sync
-/// succeeds, a crash may leave any bytes in this range and any part of the growth.
+/// Writes the bytes to the disk from `at` on, which is at most its end, and so may make it longer.
+/// Until a sync succeeds, a crash may leave any bytes in this range and any part of the growth.
 ///
 /// `DiskFault` comes only if the disk counted a fault in this call, `Memory` only if the bytes reach past
 /// the disk's end. One device call.

@@ -32,7 +32,7 @@ pub enum RecoverError {
     BadHeader(Field),
 }
 
-/// Why bytes weren't laid over a disk that may grow.
+/// Why bytes weren't written to a disk that may grow.
 #[derive(Clone, Copy, Debug, PartialEq, Eq, Drop, Error)]
 pub enum GrowError {
     /// The disk failed, and counted it.

@@ -9,10 +9,10 @@ use crate::layout::{CHANGE_LIMIT, FIRST_HOME, HEADER_PAGE, NUMBERS_AT, PAGE_SIZE
 use arrayvec::ArrayVec;
 use byteorder::{BigEndian, ByteOrder};
 
-/// The numbers of the pages of a change, in rising order.
+/// The numbers of the pages of a change, in ascending order.
 pub(crate) type Numbers = ArrayVec<u32, CHANGE_LIMIT>;
 
-/// Whether a change may replace this page of a file of so many.
+/// Whether a change may replace this page of a file of this many.
 pub(crate) fn is_home(total: u32, n: u32) -> bool
     ensures { IsTrue result ↔ IsHome total n }
 {
@@ -28,14 +28,14 @@ fn number_in(bytes: &[u8]) -> u32
     BigEndian::read_u32(bytes)
 }
 
-/// Whether a change may have so many pages.
+/// Whether a change may have this many pages.
 fn is_count(count: u32) -> bool
     ensures { IsTrue result ↔ IsCount count }
 {
     (1..=CHANGE_LIMIT as u32).contains(&count)
 }
 
-/// Whether this number may stand in a header behind the last one.
+/// Whether this number may follow the last one in a header.
 fn is_next(total: u32, last: u32, n: u32) -> bool
     ensures { IsTrue result ↔ (IsHome total n × (last < n)) }
 {
@@ -56,8 +56,8 @@ pub(crate) fn header_of(numbers: &[u32]) -> [u8; PAGE_SIZE]
     header
 }
 
-/// The numbers of the pages in a header of a file of so many pages, or the first field of it that is
-/// out of its range.
+/// The numbers of the pages in a header of a file of this many pages, or the first field of it that is out of its
+/// range.
 pub(crate) fn read_header(total: u32, header: &[u8; PAGE_SIZE]) -> Result<Numbers, Field>
     ensures good { IfOk result (λ numbers. (numbers.items ≡ page_numbers header.now) × IsHeader total header.now) }
     ensures bad { IfErr result (λ field. IsFirstBad total header.now field) }

@@ -1,4 +1,4 @@
-//! A journal with a gate over a disk.
+//! A redo journal with a gate over a disk.
 ghost use Rattle.spb_edge.specs.Calls.{StaysKnown};
 ghost use Rattle.std.specs.Prelude.{◌≡◌, ◌⊎◌, ◌*◌, ◌<◌, ◌≤◌, ◌==◌, [], List, ℕ, false, IsTrue, OnOk, IfOk, IfErr, IfSome, MatchOption, None, Some, length};
 ghost use Rattle.std.specs.Map.{lookup};
@@ -21,15 +21,15 @@ use std::alloc::Global;
 
 /// A page file in which a change of up to 80 pages happens whole or not at all.
 ///
-/// The file is a row of pages of 512 bytes. Page 0 holds the gate, page 4 the journal's header and pages
-/// 5 to 84 its images; a change may replace the pages 1 to 3 and those from 85 on. A change is staged
-/// page by page, [committed](Journal::commit) into the journal, and [settled](Journal::settle) from
-/// there. From the end of the commit on it has happened, whatever moment the machine stops at: who opens
-/// the file then calls [`recover`](Journal::recover) first.
+/// The file is a row of pages of 512 bytes. Page 0 holds the gate, page 4 the journal's header and pages 5 to 84 its
+/// images; a change may replace the pages 1 to 3 and those from 85 on. A change is staged page by page,
+/// [committed](Journal::commit) into the journal, and [settled](Journal::settle) from there. From the end of the commit
+/// on it has happened, whenever the machine stops: whoever opens the file then calls [`recover`](Journal::recover)
+/// first.
 ///
 /// It keeps the reference that it was made with, and hands it back by
 /// [`into_inner`](Journal::into_inner). Dropping it makes no device call. What the calls say of the
-/// disk's bytes, they say of disks that tell them.
+/// disk's bytes holds for disks whose bytes are known.
 #[derive(Drop)]
 pub struct Journal<'a, D: Disk> {
     disk: &'a mut D,
@@ -59,8 +59,8 @@ impl<'a, D: Disk> Journal<'a, D> {
         }
     }
 
-    /// As [`new`](Journal::new), but where memory is short it hands the disk back, so that a caller's
-    /// contract can go on to speak of it.
+    /// As [`new`](Journal::new), but if memory runs out it hands the disk back, so that a caller's contract can still
+    /// speak of it.
     pub fn new_or_back(
         alloc: Global,
         disk: &'a mut D,
@@ -91,12 +91,11 @@ impl<'a, D: Disk> Journal<'a, D> {
 
     /// Finishes the change that the journal holds: each page is then as redone, and the gate is closed.
     ///
-    /// No page may be staged. It syncs first. `BadHeader` comes exactly where the gate is open over a
-    /// header with a field out of its range, keeps the first such field, and nothing is written then.
-    /// `DiskFault` comes only where the disk counted a fault in this call; open the file again then. A
-    /// crash on the way, and a second recovery, change nothing of what the file stands for. A device
-    /// call to sync, one for the gate, and where it is open one for the header, one for the images, and
-    /// those of [`settle`](Journal::settle).
+    /// No page may be staged. It syncs first. `BadHeader` comes exactly if the gate is open over a header with a field
+    /// out of its range, keeps the first such field, and nothing is written then. `DiskFault` comes only if the disk
+    /// counted a fault in this call; open the file again then. A crash during the call, and a second recovery, change
+    /// nothing of what the file stands for. A device call to sync, one for the gate, and if it is open one for the
+    /// header, one for the images, and those of [`settle`](Journal::settle).
     pub fn recover(&mut self) -> Result<(), RecoverError>
         requires pages { HasPages D.size_of self.old }
         requires none { staged_of self.old ≡ [] }
@@ -126,8 +125,8 @@ impl<'a, D: Disk> Journal<'a, D> {
         recover_staged(self.disk, &mut self.staged)
     }
 
-    /// Page n of the disk, whatever is staged. n is below the number of pages. One device call, straight
-    /// into the caller's page. `DiskFault` comes only where the disk counted a fault in this call.
+    /// Page n of the disk, whatever is staged. n is below the number of pages. One device call, straight into the
+    /// caller's page. `DiskFault` comes only if the disk counted a fault in this call.
     pub fn read_page(&mut self, n: u32, into: &mut [u8; PAGE_SIZE]) -> Result<(), DiskFault>
         requires pages { HasPages D.size_of self.old }
         requires within { n < total_of self.old }
@@ -144,9 +143,9 @@ impl<'a, D: Disk> Journal<'a, D> {
         read_page(self.disk, n, into)
     }
 
-    /// Stages a page: in the place of the one with its number, or as another one. n is 1 to 3, or from 85
-    /// on below the number of pages. `TooMany` comes exactly where 80 pages are staged and n is another;
-    /// nothing changes then. Pages that come in rising order of their numbers are copied once.
+    /// Stages a page: it replaces the one with its number, or is added. n is 1 to 3, or from 85 on below the number of
+    /// pages. `TooMany` comes exactly if 80 pages are staged and n is another; nothing changes then. Pages that come in
+    /// ascending order of their numbers are copied once.
     pub fn stage(&mut self, n: u32, page: &[u8; PAGE_SIZE]) -> Result<(), StageError>
         requires home { IsHome (total_of self.old) n }
         ensures stages { Stages result (staged_of self.old) n page.now (staged_of self.new) }
@@ -168,7 +167,7 @@ impl<'a, D: Disk> Journal<'a, D> {
         self.staged.page(n)
     }
 
-    /// Takes out all pages that are staged. The disk stays as it is.
+    /// Drops all staged pages. The disk stays as it is.
     pub fn clear(&mut self)
         ensures none { staged_of self.new ≡ [] }
         ensures total { total_of self.new ≡ total_of self.old }
@@ -181,9 +180,9 @@ impl<'a, D: Disk> Journal<'a, D> {
     /// Writes the staged pages, at least one, into the journal, and opens its gate: from Ok on the change
     /// has happened.
     ///
-    /// Where the gate was closed and nothing was pending, a crash on the way leaves an image that stands
-    /// for the pages without the change or with all of it. `DiskFault` comes only where the disk counted
-    /// a fault in this call; open the file again then. Four device calls, and all pages in one of them.
+    /// If the gate was closed and nothing was pending, a crash during the call leaves an image that stands for the
+    /// pages without the change or with all of it. `DiskFault` comes only if the disk counted a fault in this call;
+    /// open the file again then. Four device calls, and all pages in one of them.
     pub fn commit(&mut self) -> Result<(), DiskFault>
         requires pages { HasPages D.size_of self.old }
         requires some { 0 < length (staged_of self.old) }
@@ -205,11 +204,11 @@ impl<'a, D: Disk> Journal<'a, D> {
         commit_staged(self.disk, &mut self.staged)
     }
 
-    /// Writes each staged page to its place, in rising order, closes the gate, and takes the pages out.
+    /// Writes each staged page to its place, in ascending order, closes the gate, and drops the staged pages.
     ///
-    /// It follows a commit that answered Ok. What the file stands for stays the same, whatever moment a
-    /// crash comes at. `DiskFault` comes only where the disk counted a fault in this call; open the file
-    /// again then. A device call for each page, and three more.
+    /// It follows a commit that answered Ok. What the file stands for stays the same, whenever a crash comes.
+    /// `DiskFault` comes only if the disk counted a fault in this call; open the file again then. A device call for
+    /// each page, and three more.
     pub fn settle(&mut self) -> Result<(), DiskFault>
         requires pages { HasPages D.size_of self.old }
         ensures settles { IsTrue (D.is_known (disk_of self.old)) → HoldsChange (staged_of self.old) (D.image (disk_of self.old))
@@ -235,9 +234,9 @@ impl<'a, D: Disk> Journal<'a, D> {
     }
 }
 
-/// What a file stands for survives its pages going home, as a contract: where the gate is open over a
-/// header in its ranges, an image that differs at most within the pages that the header names stands for
-/// the same. The call does nothing.
+/// What a file stands for survives its pages going home, as a contract: if the gate is open over a header in its
+/// ranges, an image that differs at most within the pages that the header names stands for the same. The call does
+/// nothing.
 pub fn home_survives()
     ensures { (total : ℕ) (image other marks : List ℕ) (home : ℕ → List ℕ) → RecoversTo total image marks home → IsTrue (has_open_gate image)
         → DiffersWithin total (page_numbers (page image HEADER_PAGE)) image other → RecoversTo total other marks home }
@@ -254,8 +253,7 @@ pub fn staging_joins_one()
     ensures { (entries : List (ℕ × List ℕ)) (n : ℕ) (page : List ℕ) → AddsOne n entries (with_page entries n page) }
 {}
 
-/// Over any pages, a staged page stands at its number and changes no other, as a contract. The call does
-/// nothing.
+/// Over any pages, a staged page is at its number and changes no other, as a contract. The call does nothing.
 pub fn staging_lays_one()
     ensures { (entries : List (ℕ × List ℕ)) (n : ℕ) (page : List ℕ) → OverlaysOne n page entries (with_page entries n page) }
 {}

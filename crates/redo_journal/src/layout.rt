@@ -1,4 +1,4 @@
-//! Where everything stands in the file.
+//! Where everything is in the file.
 //!
 //! The file is a row of pages. Page 0 is the mark page, which holds the magic and the gate; the pages
 //! after it up to the header's, and those after the journal, are homes: a change may replace them.

@@ -1,8 +1,9 @@
-//! A page file in which a change of up to 80 pages happens whole or not at all, whatever moment the
-//! machine stops at.
+//! A page file in which a change of up to 80 pages happens whole or not at all, whenever the
+//! machine stops.
 //!
 //! A change is written into the journal first. A gate byte then says that the journal holds it, and
-//! only then do the pages go to their places. Who opens the file later finishes what the gate says.
+//! only then do the pages go to their places. Whoever opens the file later finishes what the gate
+//! says.
 #![tactic(auto)]
 
 pub mod device;

@@ -41,8 +41,7 @@ fn write_home<D: Disk>(disk: &mut D, n: u32, page: &[u8]) -> Result<(), DiskFaul
     requires within { PAGE_SIZE * n + PAGE_SIZE ≤ D.size_of disk.old }
     requires page { length page.now ≡ PAGE_SIZE }
     ensures image { IsTrue (D.is_known disk.old) → OnOk result (D.image disk.new ≡ overwritten_at (D.image disk.old) (PAGE_SIZE * n) page.now) }
-    // Whatever image a crash may leave: where it differed from another at most within some pages of which
-    // this is one, it still does.
+    // A crash state that differed from another image at most within some pages, this one among them, still does.
     ensures crash { (total : ℕ) (numbers start : List ℕ) → length start ≡ PAGE_SIZE * total → n < total → IsTrue (is_listed n numbers)
         → ((c : List ℕ) → D.crash_states disk.old c → DiffersWithin total numbers start c) → (c : List ℕ) → D.crash_states disk.new c → DiffersWithin total numbers start c }
     ensures time { Elapses (D.moment disk.old) (D.moment disk.new) (D.crash_states_since disk.old) (D.crash_states_since disk.new) (D.crash_states disk.new) }
@@ -52,7 +51,7 @@ fn write_home<D: Disk>(disk: &mut D, n: u32, page: &[u8]) -> Result<(), DiskFaul
     write_piece(disk, PAGE_SIZE as u64 * n as u64, page)
 }
 
-/// Writes all staged pages home, in rising order of their numbers.
+/// Writes all staged pages home, in ascending order of their numbers.
 fn write_all_home<D: Disk>(disk: &mut D, staged: &Staged) -> Result<(), DiskFault>
     requires size { D.size_of disk.old ≡ PAGE_SIZE * staged.now.total }
     requires least { LEAST_PAGES ≤ staged.now.total }
@@ -73,7 +72,7 @@ fn write_all_home<D: Disk>(disk: &mut D, staged: &Staged) -> Result<(), DiskFaul
     Ok(())
 }
 
-/// Writes all staged pages home, closes the gate, and takes them out.
+/// Writes all staged pages home, closes the gate, and drops them.
 pub(crate) fn settle_staged<D: Disk>(disk: &mut D, staged: &mut Staged) -> Result<(), DiskFault>
     requires size { D.size_of disk.old ≡ PAGE_SIZE * staged.old.total }
     requires least { LEAST_PAGES ≤ staged.old.total }

@@ -72,8 +72,7 @@ fn find_change<D: Disk>(disk: &mut D, staged: &mut Staged) -> Result<bool, Recov
     }
 }
 
-/// Has the disk keep what was written, and stages the change that the journal holds; whether it holds
-/// one.
+/// Syncs, and stages the change that the journal holds; says whether it holds one.
 ///
 /// Until the sync succeeds the header and the images may be lost in a crash, though they read as they
 /// should. So no page may go home before it.

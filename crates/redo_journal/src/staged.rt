@@ -18,8 +18,8 @@ use spb_edge::{Disk, Memory};
 use std::alloc::Global;
 use std::marker::Model;
 
-/// The pages of a change in rising order of their numbers, behind a page of room for their header. All
-/// of its memory is taken when it is made.
+/// The pages of a change in ascending order of their numbers, after a page of room for their header. All of its memory
+/// is taken when it is made.
 #[derive(Drop)]
 pub(crate) struct Staged {
     total: u32,
@@ -44,7 +44,7 @@ impl Model for Staged {
 }
 
 impl Staged {
-    /// No page, of a file of so many.
+    /// No page, of a file of this many.
     pub(crate) fn new(alloc: Global, total: u32) -> Result<Staged, Memory>
         ensures { IfOk result (λ staged. (staged.pages ≡ []) × (staged.total ≡ total)) }
     {
@@ -72,7 +72,7 @@ impl Staged {
         self.numbers.len()
     }
 
-    /// Stages a page in the place of one with its number, or as another one.
+    /// Stages a page: it replaces the one with its number, or is added.
     pub(crate) fn stage(&mut self, n: u32, page: &[u8; PAGE_SIZE]) -> Result<(), StageError>
         requires { IsHome self.old.total n }
         ensures stages { Stages result self.old.pages n page.now self.new.pages }
@@ -140,7 +140,7 @@ impl Staged {
         replace_page(&mut self.body, 0, &header);
     }
 
-    /// The header and the pages, behind one another.
+    /// The header and the pages, one after another.
     pub(crate) fn body(&self) -> &[u8]
         ensures bytes { result.now ≡ self.now.header ++ joined_images self.now.pages }
         ensures long { length result.now ≡ PAGE_SIZE * (1 + length self.now.pages) }
@@ -163,7 +163,7 @@ impl Staged {
     }
 }
 
-/// Reads so many of the journal's images behind the header's page. There is room for them.
+/// Reads this many of the journal's images after the header's page. There is room for them.
 fn read_images<D: Disk>(disk: &mut D, body: &mut Vec<u8>, count: usize) -> Result<(), DiskFault>
     requires few { count ≤ CHANGE_LIMIT }
     requires header { PAGE_SIZE ≤ vec_len body.old }
@@ -186,7 +186,7 @@ fn read_images<D: Disk>(disk: &mut D, body: &mut Vec<u8>, count: usize) -> Resul
     )
 }
 
-/// Where a number stands among rising ones, or where it belongs.
+/// Where a number is among ascending ones, or where it belongs.
 fn place_of(numbers: &[u32], n: u32) -> Result<usize, usize>
     requires { IsNonDecreasing numbers.now }
     ensures { MatchResult result (IsPlaceOf numbers.now n) (IsBetween numbers.now n) }
@@ -194,7 +194,7 @@ fn place_of(numbers: &[u32], n: u32) -> Result<usize, usize>
     numbers.binary_search(&n)
 }
 
-/// Lays a page over the one at this place, from 0.
+/// Overwrites the page at this place, from 0.
 fn replace_page(pages: &mut Vec<u8>, place: usize, page: &[u8; PAGE_SIZE])
     requires { PAGE_SIZE * place + PAGE_SIZE ≤ vec_len pages.old }
     ensures items { pages.new.items ≡ take (PAGE_SIZE * place) pages.old.items ++ (page.now ++ drop (PAGE_SIZE * place + PAGE_SIZE) pages.old.items) }
@@ -205,7 +205,7 @@ fn replace_page(pages: &mut Vec<u8>, place: usize, page: &[u8; PAGE_SIZE])
     pages[at..at + PAGE_SIZE].copy_from_slice(page);
 }
 
-/// Puts a page before the one at this place, from 0, or behind all of them. There is room for it.
+/// Inserts a page before the one at this place, from 0, or after all of them. There is room for it.
 fn insert_page(pages: &mut Vec<u8>, place: usize, page: &[u8; PAGE_SIZE])
     requires place { PAGE_SIZE * place ≤ vec_len pages.old }
     requires room { vec_len pages.old + PAGE_SIZE ≤ vec_capacity pages.old }

@@ -17,8 +17,7 @@ enum Home {
     Mixed,
 }
 
-/// A file of so many pages: the magic, a closed gate, and each page behind the mark page full of its
-/// number.
+/// A file of this many pages: the magic, a closed gate, and each page after the mark page full of its number.
 fn file(alloc: Global, pages: u32) -> Result<Vec<u8>, AllocError> {
     let mut file = Vec::new(alloc);
     file.extend_from_slice(b"spbstore")?;
@@ -57,8 +56,8 @@ fn home_of(image: &[u8]) -> Home {
     }
 }
 
-/// A disk of 90 pages with this image, which stops after so many calls and whose calls in `failing`
-/// fail.
+/// A disk of 90 pages with this image, which stops after this many calls and whose calls in
+/// `failing` fail.
 fn disk_of(
     alloc: Global,
     image: &[u8],
@@ -101,8 +100,8 @@ fn home_after_recovery(alloc: Global, image: &[u8]) -> Result<Home, Fail> {
     Ok(home_of(disk.image()))
 }
 
-/// What the file stands for once it is recovered, and the same where the recovery is stopped after each
-/// number of its calls and made again; Mixed where these differ.
+/// What the file stands for once it is recovered, also if the recovery is stopped after each number of its calls and
+/// made again; Mixed if these differ.
 fn home_whatever_the_stop(alloc: Global, image: &[u8]) -> Result<Home, Fail> {
     let home = home_after_recovery(alloc, image)?;
     for stop in 0..11 {
@@ -118,8 +117,8 @@ fn home_whatever_the_stop(alloc: Global, image: &[u8]) -> Result<Home, Fail> {
     Ok(home)
 }
 
-/// Stages and commits one page of a file of 90. Whatever the commit answers, a crash on the way leaves
-/// the pages without this one or with it.
+/// Stages and commits one page of a file of 90. Whatever the commit answers, a crash meanwhile leaves the pages without
+/// this one or with it.
 fn commit_page<D: Disk>(alloc: Global, disk: &mut D, page: &[u8; 512]) -> Result<(), Memory>
     requires size { D.size_of disk.old ≡ 512 * 90 }
     ensures any_moment { IsTrue (D.is_known disk.old) → IsTrue (D.knows_crashes disk.old) → IsDurable (D.image disk.old) (D.crash_states disk.old) → (marks : List ℕ) (home : ℕ → List ℕ)
@@ -141,9 +140,9 @@ fn commit_page<D: Disk>(alloc: Global, disk: &mut D, page: &[u8; 512]) -> Result
     Ok(())
 }
 
-/// What a crash leaves of a file of 90 pages whose page 86 was committed over a fresh disk, some of whose
-/// calls fail: the pages without the new one or with it. The prover sees by it that the disk in memory
-/// tells its image and its crash images, and that the journal's clauses on crashes say something of it.
+/// What a crash leaves of a file of 90 pages whose page 86 was committed over a fresh disk, some of whose calls fail:
+/// the pages without the new one or with it. By it the prover sees that the image and the crash states of the disk in
+/// memory are known, and that the journal's clauses on crashes say something of it.
 fn commit_and_crash(
     alloc: Global,
     image: &[u8],
@@ -176,7 +175,7 @@ fn a_committed_page_is_there_after_a_crash(rt: HostRuntime) -> Result<(), Fail> 
 #[test]
 fn a_change_stopped_at_each_call_happens_whole_or_not_at_all(rt: HostRuntime) -> Result<(), Fail> {
     let old = file(rt.alloc(), 90)?;
-    // The sync behind the open gate is the fourth call, and nine calls are made in all.
+    // The sync after the open gate is the fourth call, and nine calls are made in all.
     for stop in 0..10 {
         let mut disk = disk_of(rt.alloc(), &old, &[], Some(stop))?;
         let done = change(rt.alloc(), &mut disk)?;
@@ -235,7 +234,7 @@ fn the_calls_come_in_this_order(rt: HostRuntime) -> Result<(), Fail> {
     };
     let sync = DiskCall::Sync;
     assert!(rt; disk.calls() == [body, sync, gate, sync, low, high, sync, gate, sync].as_slice());
-    // The header: two images, four zero bytes, and the numbers in rising order.
+    // The header: two images, four zero bytes, and the numbers in ascending order.
     let header = [0, 0, 0, 2, 0, 0, 0, 0, 0, 0, 0, 3, 0, 0, 0, 85, 0];
     assert!(rt; disk.written().starts_with(&header));
     assert!(rt; home_of(disk.image()) == Home::New);

@@ -16,7 +16,7 @@ use Rattle.row_table.specs.Finding.{find-at, find-none}
 use Rattle.row_table.specs.TableLaws.{not_equal, equal, none_is_row, rows_without-permutation, rows_without-cons, without_absent}
 use Rattle.std.proofs.lemmas.List.Sorted.{IsPermutation-swap_remove, IsPermutation-refl}
 
--- ---- what an index tells of rows
+-- ---- what an index says of rows
 
 id_at : (rows : List Row) (place : ℕ) (d : Row) → place < length rows → slice_index (ids_of rows) place ≡ (get_or rows place d).id
 id_at rows place d below = get_or-map (λ (row : Row). row.id) rows place d 0 below
@@ -244,7 +244,7 @@ module _ (ids new : List ℕ) (f g : ℕ → Option ℕ) (id place : ℕ) (index
 pub same_entries : (m n : BTreeMap ℕ ℕ) (ids : List ℕ) → n.entries ≡ m.entries → IsIndexed (get nat_cmp m) ids → IsIndexed (get nat_cmp n) ids
 same_entries m n ids same indexed = subst (λ es. IsIndexed (λ q. lookup (is_at (nat_cmp q)) es) ids) (sym same) indexed
 
--- one more row behind the others
+-- one more row after the others
 pub pushed : (rows : List Row) (row : Row) (old new : ℕ → Option ℕ) (place : ℕ) → IsIndexed old (ids_of rows) → row_with row.id rows ≡ None → place ≡ length rows → Puts old new row.id (Some place) → IsIndexed new (ids_of (rows ++ row ∷ []))
 pushed rows row old new place indexed none is put =
     let count : place ≡ length (ids_of rows) = is ∙ sym (length-map rows (λ (row : Row). row.id)) in
@@ -303,7 +303,7 @@ remaining rows place row id below at mine none =
     let all = rows_without-permutation rows (row ∷ new) id (IsPermutation-swap_remove rows place row below at) in
     subst (IsPermutation (rows_without id rows)) (rows_without-cons row new id true (equal row.id id mine) ∙ without_absent new id none) all
 
--- a place that isn't that of the last row has one behind it
+-- a place that isn't that of the last row has one after it
 pub more_after : (place n m : ℕ) → place < n → m + 1 ≡ n → place ≢ m → place + 1 < n
 more_after place n m below count other = ⊎_elim (λ less. less) (λ from. absurd (other (omega (arith, below, count, from)))) (cases_lt (place + 1) n)
 
@@ -370,11 +370,11 @@ module _ {rows new : List Row} {place : ℕ} {row : Row} {id : ℕ} {f g : ℕ �
       pub another_remaining : IsPermutation (rows_without id rows) new
       another_remaining = left (missing new h another_gone id (id_gone (ids_of rows) (ids_of new) f g id place goes.indexed goes.there moved_ids goes.cut h more_ids put_there))
 
--- where no row has the id
+-- if no row has the id
 pub all_remaining : (rows : List Row) (id : ℕ) → row_with id rows ≡ None → IsPermutation (rows_without id rows) rows
 all_remaining rows id none = subst (λ xs. IsPermutation xs rows) (sym (without_absent rows id none)) (IsPermutation-refl rows)
 
--- what `get` of a slice lends at the id's place
+-- what `get` of a slice returns at the id's place
 pub lent : (rows : List Row) (place_of : ℕ → Option ℕ) → IsIndexed place_of (ids_of rows) → (id place : ℕ) → place_of id ≡ Some place → (result : Option (Bor Row)) → IsItemAt rows place result → option_copied result ≡ row_with id rows
 lent rows place_of indexed id place is (Some row) item = sym (found rows place_of indexed id place row.now is item.1)
 lent rows place_of indexed id place is None item =

@@ -1,7 +1,7 @@
 -- The first item of a list that passes a test.
 use Rattle.std.proofs.Common.{◌≡◌, ℕ, ◌<◌, Bool, true, false, cond, Some, None, List, [], ◌∷◌, length, get_or, find, refl, sym, ap, ◌∙◌, zero, suc, arith}
 
--- it stands at a place, and none before it passes
+-- it is at a place, and none before it passes
 pub find-at : {X : Type 0} (p : X → Bool) (xs : List X) (place : ℕ) (x : X) → place < length xs → x ≡ get_or xs place x → p x ≡ true → ((k : ℕ) (d : X) → k < place → p (get_or xs k d) ≡ false) → find p xs ≡ Some x
 find-at p [] place x below is passes before = absurd (omega (arith, below))
 find-at p (y ∷ ys) zero x below is passes before =

@@ -1,4 +1,5 @@
--- Tables of rows, one for each collection, as the members of a state: what a look-up, an addition and a removal find and leave.
+-- Tables of rows, one for each collection, as the members of a state: what a look-up, an addition and a removal find
+-- and leave.
 use Rattle.std.proofs.Common.{◌≡◌, ℕ, ◌+◌, ◌<◌, ◌≤◌, Some, None, List, [], ◌∷◌, ◌++◌, map, length, All, IsPermutation, refl, sym, ap, subst, ◌∙◌, zero, suc, arith}
 use Rattle.std.specs.Prelude.{◌^◌, not, slice_index_or, slice_set, sum_by}
 use Rattle.std.specs.List.{AllByRecursion}

@@ -1,4 +1,4 @@
--- Rows by their ids, where no two have one id.
+-- Rows by their ids, if no two have the same id.
 use Rattle.std.proofs.Common.{◌≡◌, ◌≢◌, ℕ, ◌+◌, ◌<◌, ◌≤◌, Bool, true, false, not, cond, Option, Some, None, List, [], ◌∷◌, ◌++◌, length, get_or, All, Contains, IsPermutation, swap, ⊎_elim, refl, sym, ap, ◌∙◌, zero, suc, arith, if◌then◌else◌, ◌==◌}
 use Rattle.std.specs.Option.{option_or}
 use Rattle.std.proofs.lemmas.Bool.Decides.{nat_tests}
@@ -64,7 +64,7 @@ Contains-row_with (r ∷ rs) id row there = from (has_id id r) refl (Contains-ro
         let inner = rest (sym (row_with-cons r rs id false is) ∙ there) in
         (suc inner.0, (let below = inner.1 in omega (arith, below)), inner.2)
 
--- where none is found, no row has the id
+-- if none is found, no row has the id
 pub row_with-none : (rows : List Row) (id : ℕ) → row_with id rows ≡ None → All (λ (row : Row). row.id ≢ id) rows
 row_with-none [] id none = λ k d below. absurd (omega (arith, below))
 row_with-none (r ∷ rs) id none = from (has_id id r) refl (row_with-none rs id)
@@ -90,7 +90,7 @@ row_with-permutation rows others distinct same id = from (row_with id others) re
         ap (λ n. row_with n rows) (sym (row_with-id others id row there))
         ∙ row_with-Contains rows distinct row (Contains-permutation others rows row (IsPermutation-sym rows others same) (Contains-row_with others id row there))
 
-    -- and where there is none among them, there is none among the rows
+    -- and if there is none among them, there is none among the rows
     nowhere : row_with id others ≡ None → (k : ℕ) (d : Row) → k < length rows → has_id id (get_or rows k d) ≡ false
     nowhere none k d below = not_equal (get_or rows k d).id id (λ mine.
         let r = get_or rows k d in
@@ -101,7 +101,7 @@ row_with-permutation rows others distinct same id = from (row_with id others) re
     from (Some row) there = there ∙ sym (back row there)
     from None none = none ∙ sym (find-none (has_id id) rows (nowhere none))
 
--- ---- one more row behind the others
+-- ---- one more row after the others
 
 pub HasDistinctIds-push : (rows : List Row) (row : Row) → HasDistinctIds rows → row_with row.id rows ≡ None → HasDistinctIds (rows ++ row ∷ [])
 HasDistinctIds-push rows row distinct none = all_pairs_push (λ (a b : Row). a.id ≢ b.id) rows row distinct (row_with-none rows row.id none)
@@ -138,7 +138,7 @@ rows_without-permutation rows others id same = permutation-filter (λ row. not (
 pub HasDistinctIds-rows_without : (rows : List Row) (id : ℕ) → HasDistinctIds rows → HasDistinctIds (rows_without id rows)
 HasDistinctIds-rows_without rows id distinct = AllPairs-filter (λ (a b : Row). a.id ≢ b.id) (λ row. not (has_id id row)) rows distinct
 
--- where no row has the id, these are all
+-- if no row has the id, these are all
 pub without_absent : (rows : List Row) (id : ℕ) → row_with id rows ≡ None → rows_without id rows ≡ rows
 without_absent [] id none = refl
 without_absent (r ∷ rs) id none = from (has_id id r) refl (without_absent rs id)
@@ -182,7 +182,7 @@ rows_without-length (row ∷ rows) id = from (not (has_id id row)) (rows_without
     from true h = omega (arith, h)
     from false h = omega (arith, h)
 
--- where a row has the id, they are one fewer
+-- if a row has the id, they are one fewer
 pub length-rows_without : (rows : List Row) → HasDistinctIds rows → (id : ℕ) (row : Row) → row_with id rows ≡ Some row → length (rows_without id rows) + 1 ≡ length rows
 length-rows_without [] distinct id row there = absurd (none_is_row row there)
 length-rows_without (r ∷ rs) distinct id row there =
@@ -201,7 +201,7 @@ length-rows_without (r ∷ rs) distinct id row there =
 
 -- ---- the order of the rows
 
--- where the item at a place stands after the items at two places changed round
+-- where the item at a place is after the items at two places are swapped
 exchanged : ℕ → ℕ → ℕ → ℕ
 exchanged a b k = if k == a then b else (if k == b then a else k)
 

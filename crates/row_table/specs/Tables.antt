@@ -19,6 +19,6 @@ rows_without id rows = filter (λ row. not (has_id id row)) rows
 abbrev pub ids_of : List Row → List ℕ
 ids_of rows = map (λ (row : Row). row.id) rows
 
--- no two rows have one id
+-- no two rows have the same id
 abbrev pub HasDistinctIds : List Row → Type 0
 HasDistinctIds rows = AllPairs (λ (a b : Row). a.id ≢ b.id) rows

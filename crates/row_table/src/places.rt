@@ -26,7 +26,7 @@ pub(crate) fn find_row<'a>(
     }
 }
 
-/// Puts a row of a new id behind the others. Where memory runs out nothing changes.
+/// Adds a row of a new id after the others. If memory runs out nothing changes.
 pub(crate) fn insert_row(
     rows: &mut Vec<Row>,
     index: &mut BTreeMap<u32, usize>,
@@ -44,7 +44,7 @@ pub(crate) fn insert_row(
     Ok(())
 }
 
-/// Takes out the row with the id, and answers whether there was one. The last row moves to its place.
+/// Removes the row with the id, and says whether there was one. The last row moves to its place.
 pub(crate) fn remove_row(rows: &mut Vec<Row>, index: &mut BTreeMap<u32, usize>, id: u32) -> bool
     requires { IsIndexed (get nat_cmp index.old) (ids_of rows.old.items) }
     ensures found { result ≡ is_some (row_with id rows.old.items) }

@@ -11,8 +11,8 @@ use std::alloc::Global;
 use std::collections::BTreeMap;
 use std::marker::Model;
 
-/// The rows of one collection, side by side, and an index from each id to its place. No two rows have one id.
-/// Contracts see the list of the rows, in the order in which they stand.
+/// The rows of one collection, side by side, and an index from each id to its place. No two rows have the same id.
+/// Contracts see the list of the rows, in their order.
 ///
 /// It takes memory for the rows, and for an entry of the index for each.
 #[derive(Drop)]
@@ -54,7 +54,7 @@ impl RowTable {
         self.rows.len()
     }
 
-    /// The rows, in the order in which they stand.
+    /// The rows, in their order.
     pub fn rows(&self) -> &[Row]
         ensures rows { result.now ≡ self.now }
         ensures ids { HasDistinctIds self.now }
@@ -76,8 +76,8 @@ impl RowTable {
         self.find(id).is_some()
     }
 
-    /// Puts a row of a new id behind the others. Where memory runs out nothing changes. It takes time in the
-    /// logarithm of the number of rows.
+    /// Adds a row of a new id after the others. If memory runs out nothing changes. It takes time in the logarithm of
+    /// the number of rows.
     pub fn insert(&mut self, row: Row) -> Result<(), Memory>
         requires new { row_with row.id self.old ≡ None }
         ensures ok { OnOk result (self.new ≡ self.old ++ row ∷ []) }
@@ -86,8 +86,8 @@ impl RowTable {
         insert_row(&mut self.rows, &mut self.index, row)
     }
 
-    /// Takes out the row with the id, and answers whether there was one. The last row moves to its place. It
-    /// takes no memory, and time in the logarithm of the number of rows.
+    /// Removes the row with the id, and says whether there was one. The last row moves to its place. It takes no
+    /// memory, and time in the logarithm of the number of rows.
     pub fn remove(&mut self, id: u32) -> bool
         ensures found { result ≡ is_some (row_with id self.old) }
         ensures others { IsPermutation (rows_without id self.old) self.new }

@@ -19,7 +19,7 @@ fn row(alloc: Global, id: u32, object: u8) -> Result<Row, Memory>
     })
 }
 
-/// Puts a row of one byte into the table.
+/// Adds a row of one byte to the table.
 fn put(table: &mut RowTable, alloc: Global, id: u32, object: u8) -> Result<(), Fail> {
     if table.has(id) {
         return Err(Fail::new("the table has the id"));

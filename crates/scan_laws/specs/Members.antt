@@ -212,7 +212,7 @@ unfolding IsDistinct
 distinct_from c [] ids = tt
 distinct_from c (rows ∷ tables) ids = distinct_rows c rows (keyed_tables (suc c) tables) ids.0 (from_tables (suc c) tables) (distinct_from (suc c) tables ids.1)
 
--- the members stand in rising order of their keys
+-- the members are in ascending order of their keys
 pub members_of-rising : (tables : List (List Entry)) → AllByRecursion HasDistinctEntryIds tables → IsStrictlySortedBy key_cmp (keys_of (members_of tables))
 unfolding members_of
 members_of-rising tables ids = rising-sorted_by key_order (keyed_tables 0 tables) (distinct_from 0 tables ids)
@@ -259,7 +259,7 @@ members_of-more tables c id object rows ids below none h =
     sym (sorted_by-same_keys key_order exact_keys (((c, id), object) ∷ all) (keyed_tables 0 (with_table tables c rows)) (IsPermutation-sym (keyed_tables 0 (with_table tables c rows)) (((c, id), object) ∷ all) grown) distinct)
     ∙ sorted_by-inserted key_order (c, id) object all absent
 
--- the same where the row stands last
+-- the same if the row is last
 pub members_of-added : (tables : List (List Entry)) (c id : ℕ) (object : List ℕ) → AllByRecursion HasDistinctEntryIds tables → c < length tables → object_with_id (table_at tables c) id ≡ None
     → members_of (with_table tables c (table_at tables c ++ (id, object) ∷ [])) ≡ with_object (members_of tables) c id object
 members_of-added tables c id object ids below none =
@@ -280,7 +280,7 @@ kept (row ∷ rows) id n e apart =
     ap (λ b. cond b (row ∷ entries_without rows id) (entries_without rows id)) (same_id n row.0 id e (apart 0 row (omega arith)))
     ∙ ap (λ more. row ∷ more) (kept rows id n e (λ k d below. apart (suc k) d (omega (arith, below))))
 
--- where the id isn't found, all rows are kept
+-- if the id isn't found, all rows are kept
 absent_if : (b : Bool) (row : Entry) (rows others : List Entry) (rest : Option (List ℕ)) → cond b (Some row.1) rest ≡ None → (rest ≡ None → others ≡ rows) → cond (not b) (row ∷ others) others ≡ row ∷ rows
 absent_if true row rows others rest none more = cc
 absent_if false row rows others rest none more = ap (λ l. row ∷ l) (more none)
@@ -295,7 +295,7 @@ the_id a id h = grind (arith, nat_tests)
 row_is : (row : Entry) (id : ℕ) (object : List ℕ) → row.0 ≡ id → row.1 ≡ object → ◌≡◌ {A = Entry} (id, object) row
 row_is row id object e f = λ i. (sym e i, sym f i)
 
--- where it is found, its row is the only one that isn't kept
+-- if it is found, its row is the only one that isn't kept
 split_if : (b : Bool) (row : Entry) (rows others : List Entry) (id : ℕ) (object : List ℕ) (rest : Option (List ℕ)) → (row.0 == id) ≡ b → cond b (Some row.1) rest ≡ Some object
     → ((row.0 == id) ≡ true → others ≡ rows) → (rest ≡ Some object → IsPermutation rows ((id, object) ∷ others))
     → IsPermutation (row ∷ rows) ((id, object) ∷ cond (not b) (row ∷ others) others)

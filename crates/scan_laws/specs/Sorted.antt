@@ -1,4 +1,4 @@
--- Entries that are arranged by their keys.
+-- Entries that are sorted by their keys.
 use Rattle.std.proofs.Common.{◌≡◌, Bool, true, false, cond, List, [], ◌∷◌, length, get_or, refl, sym, ap, ◌∙◌, true≢false, arith}
 use Rattle.std.specs.Prelude.{Option, Some, None, if◌then◌else◌}
 use Rattle.std.specs.List.{AllByRecursion, IsDistinct}
@@ -19,7 +19,7 @@ use Rattle.answer_lists.specs.OrderLaws.{IsStrictOrder, HasDistinctKeys, arrange
 
 -- ---- tests by a key
 
--- something is not nothing
+-- Some is not None
 found : {X : Type 0} (x : X) → Some x ≡ None → ⊥
 found x e = cc
 
@@ -40,17 +40,17 @@ module _ {X : Type 0} where
   either_first false c u v rest h = refl
 
 module _ {K X : Type 0} (test : K → Bool) where
-  -- nothing is found where no key passes
+  -- nothing is found if no key passes
   pub lookup-absent : (es : List (K × X)) → AllByRecursion (λ k. test k ≡ false) (keys_of es) → lookup test es ≡ None
   lookup-absent [] h = refl
   lookup-absent (e ∷ es) h = ap (λ b. cond b (Some e.1) (lookup test es)) h.0 ∙ lookup-absent es h.1
 
-  -- no key passes where nothing is found
+  -- no key passes if nothing is found
   pub absent-lookup : (es : List (K × X)) → lookup test es ≡ None → AllByRecursion (λ k. test k ≡ false) (keys_of es)
   absent-lookup [] h = tt
   absent-lookup (e ∷ es) h = (not_first (test e.0) e.1 (lookup test es) h, absent-lookup es (not_later (test e.0) e.1 (lookup test es) h))
 
-  -- nothing is taken out where nothing is found
+  -- nothing is taken out if nothing is found
   pub remove_entry-absent : (es : List (K × X)) → lookup test es ≡ None → remove_entry test es ≡ es
   remove_entry-absent [] h = refl
   remove_entry-absent (e ∷ es) h =
@@ -73,7 +73,7 @@ module _ {K : Type 0} {R : K → K → Ordering} (o : IsTotalOrder R) where
   turned : (x y : K) → R y x ≡ ordering_reverse (R x y)
   turned x y = o.antisymm y x
 
-  -- a query that is at both of two keys tells that none is before the other
+  -- if a query equals both of two keys, neither is before the other
   not_both : (q x y : K) → is_lt (R x y) ≡ true → is_eq (R q x) ≡ true → is_eq (R q y) ≡ true → ⊥
   not_both q x y lt at_x at_y =
       let one : R q y ≡ R x y = o.congr q x y (equal (R q x) at_x) in
@@ -128,19 +128,19 @@ module _ {K X : Type 0} {R : K → K → Ordering} (o : IsTotalOrder R) where
     lookup-with_inserted x [] = refl
     lookup-with_inserted x (e ∷ es) = looked_if (before e x) x e es (with_inserted before x es) refl (lookup-with_inserted x es)
 
-    -- the same is found in the arranged entries
+    -- the same is found in the sorted entries
     pub lookup-sorted_by : (es : List (K × X)) → lookup (is_at (R q)) (sorted_by before es) ≡ lookup (is_at (R q)) es
     unfolding sorted_by
     lookup-sorted_by [] = refl
     lookup-sorted_by (e ∷ es) = lookup-with_inserted e (sorted_by before es) ∙ ap (λ rest. cond (is_eq (R q e.0)) (Some e.1) rest) (lookup-sorted_by es)
 
-  -- ---- entries of other keys are arranged alike in any order
+  -- ---- entries of distinct keys are sorted the same from any order
 
-  -- other keys stay other keys
+  -- distinct keys stay distinct
   pub distinct-moved : (xs ys : List (K × X)) → IsPermutation xs ys → IsDistinct (eq_by_cmp R) (keys_of xs) → IsDistinct (eq_by_cmp R) (keys_of ys)
   distinct-moved xs ys h d = IsDistinct-IsPermutation (eq_by_cmp R) (eq_by_cmp_equiv o).symm (keys_of xs) (keys_of ys) (IsPermutation-map (λ (e : K × X). e.0) xs ys h) d
 
-  -- other keys by the order are other keys
+  -- keys that the order tells apart are distinct
   other_keys : (xs : List (K × X)) → IsDistinct (eq_by_cmp R) (keys_of xs) → HasDistinctKeys (λ (e : K × X). e.0) xs
   other_keys xs apart = λ i j d less inside same.
       let long : length (keys_of xs) ≡ length xs = length-map xs (λ (e : K × X). e.0) in
@@ -150,7 +150,7 @@ module _ {K X : Type 0} {R : K → K → Ordering} (o : IsTotalOrder R) where
       let one : get_or (keys_of xs) j d.0 ≡ get_or (keys_of xs) i d.0 = right ∙ sym same ∙ sym left in
       true≢false (sym (itself o (get_or (keys_of xs) i d.0)) ∙ ap (λ k. eq_by_cmp R (get_or (keys_of xs) i d.0) k) (sym one) ∙ differ)
 
-  -- the order in which they come is nothing to their arrangement
+  -- the order in which they come doesn't change the sorted list
   pub sorted_by-same_keys : CmpEqualImpliesEq R → (xs ys : List (K × X)) → IsPermutation xs ys → IsDistinct (eq_by_cmp R) (keys_of xs) → sorted_by before xs ≡ sorted_by before ys
   sorted_by-same_keys exact xs ys h d = arranged_by-same (λ x y. is_lt (R x y)) (order_of o exact) (λ (e : K × X). e.0) xs ys h (other_keys xs d)
 
@@ -190,7 +190,7 @@ module _ {K X : Type 0} {R : K → K → Ordering} (o : IsTotalOrder R) where
   unfolding sorted_by
   sorted_by-removed k v es h = with_inserted-removed (is_at (R k)) (k, v) (sorted_by before es) (itself o k) (lookup-sorted_by k es ∙ h)
 
-  -- ---- the arranged keys rise
+  -- ---- the sorted keys rise
 
   all_if : (P : K → Type 0) (b : Bool) (x e : K × X) (es more : List (K × X)) → P x.0 → P e.0 → AllByRecursion P (keys_of es) → AllByRecursion P (keys_of more) → AllByRecursion P (keys_of (if b then e ∷ more else x ∷ e ∷ es))
   all_if P true x e es more p q all others = (q, others)
@@ -213,7 +213,7 @@ module _ {K X : Type 0} {R : K → K → Ordering} (o : IsTotalOrder R) where
   rising-with_inserted x [] other up = (tt, tt)
   rising-with_inserted x (e ∷ es) other up = rising_if (before e x) x e es refl other.0 up (rising-with_inserted x es other.1 up.1)
 
-  -- arranged entries of other keys stand in rising order
+  -- sorted entries of distinct keys are in ascending order
   pub rising-sorted_by : (es : List (K × X)) → IsDistinct (eq_by_cmp R) (keys_of es) → IsStrictlySortedBy R (keys_of (sorted_by before es))
   unfolding sorted_by IsStrictlySortedBy
   rising-sorted_by [] d = tt

@@ -7,7 +7,7 @@ use Rattle.answer_lists.specs.Order.{sorted_by}
 use Rattle.spb_defs.specs.Scans.{Entry}
 use Rattle.spb_defs.specs.State.{Key, Members, key_cmp}
 
--- no two rows have one id
+-- no two rows have the same id
 abbrev pub HasDistinctEntryIds : List Entry → Type 0
 HasDistinctEntryIds rows = AllPairs (λ a b. a.0 ≢ b.0) rows
 
@@ -28,11 +28,11 @@ keyed_tables c (rows ∷ tables) = keyed_entries c rows ++ keyed_tables (suc c) 
 unfoldable pub members_of : List (List Entry) → Members
 members_of tables = sorted_by key_before (keyed_tables 0 tables)
 
--- the table of a collection, empty where the collection has none
+-- the table of a collection, empty if the collection has none
 abbrev pub table_at : List (List Entry) → ℕ → List Entry
 table_at tables c = slice_index_or tables c []
 
--- the tables with another one for a collection; where the collection has none, the tables as they are
+-- the tables with another one for a collection; if the collection has none, the tables as they are
 abbrev pub with_table : List (List Entry) → ℕ → List Entry → List (List Entry)
 with_table [] c rows = []
 with_table (first ∷ rest) zero rows = rows ∷ rest

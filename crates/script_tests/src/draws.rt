@@ -115,7 +115,7 @@ impl Draws {
         words.get(place).copied().unwrap_or("")
     }
 
-    /// Puts a line of one of the forms at the end of the script.
+    /// Appends a line of one of the forms to the script.
     fn line(&mut self, objects: &[&str], script: &mut String) -> Result<(), AllocError> {
         let Some((name, parts)) = self.word(&FORMS).split_once(' ') else {
             return Ok(());
@@ -150,7 +150,7 @@ fn drawn_script(alloc: Global, seed: u64, objects: &[&str]) -> Result<String, Al
     Ok(script)
 }
 
-/// Whether the script drawn from the seed is answered alike with so many pivots.
+/// Whether both programs answer the script drawn from the seed the same with this many pivots.
 fn is_drawn_alike<'a>(
     alloc: Global,
     texts: &[&'a str],
@@ -164,7 +164,7 @@ fn is_drawn_alike<'a>(
     are_alike(alloc, &with_pivots, script.as_bytes())
 }
 
-/// Whether drawn scripts of the kind are answered alike with 0, 1, 3 and 8 pivots.
+/// Whether both programs answer drawn scripts of the kind the same with 0, 1, 3 and 8 pivots.
 fn are_drawn_alike(alloc: Global, texts: &[&str], objects: &[&str]) -> Result<bool, Fail> {
     for (seed, pivots) in [(0u64, "0"), (1, "1"), (2, "3"), (3, "8")] {
         if !is_drawn_alike(alloc, texts, objects, seed, pivots)? {

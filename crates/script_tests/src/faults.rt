@@ -24,7 +24,7 @@ struct Streams {
 const SCRIPT: &str = "add 0 1 0,0\nrange 0 0 0,0\n";
 
 const FAULTS: [Streams; 3] = [
-    // a source that fails amid a line
+    // a source that fails in the middle of a line
     Streams {
         script: "count 0\ncount 0\n",
         piece: 11,
@@ -73,7 +73,7 @@ fn a_stream_that_fails_ends_the_run(rt: HostRuntime) -> Result<(), Fail> {
     Ok(())
 }
 
-/// Whether a script whose last line has no LF is answered, where so many bytes come at once at most.
+/// Whether a script whose last line has no LF is answered when at most this many bytes come at once.
 fn is_answered_in_pieces(alloc: Global, piece: usize) -> Result<bool, Fail> {
     let streams = Streams {
         script: "add 0 1 0,0\nadd 0 2 3,4\n\nrange 0 7 0,0\nadd 0 1 1,1\nrange 0 6 0,0",

@@ -1,4 +1,4 @@
-//! Scripts that come to the limits, and many twins. The plain program is their measure.
+//! Scripts that come to the limits, and many twins. They are compared with the plain program.
 use crate::plays::{PLANE, are_alike, are_answers};
 use std::alloc::{AllocError, Global};
 use std::test::Fail;

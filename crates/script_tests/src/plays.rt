@@ -28,7 +28,7 @@ pub(crate) fn play_over(
     Ok(run(alloc, &words, input, output, &mut disk))
 }
 
-/// How a run of the words ends on the script. What it writes stands in the sink.
+/// How a run of the words ends on the script. What it writes is in the sink.
 fn play(
     alloc: Global,
     texts: &[&str],
@@ -70,7 +70,7 @@ pub(crate) fn are_answers(
     Ok(is_answer && is_plain_answer(alloc, texts, script, text)?)
 }
 
-/// Whether the program and the plain one answer the script of the words alike, to its end.
+/// Whether the program and the plain one answer the script of the words the same, to its end.
 pub(crate) fn are_alike(alloc: Global, texts: &[&str], script: &[u8]) -> Result<bool, Fail> {
     let mut output = MemSink::new(alloc, 1 << 20, &[])?;
     let status = play(alloc, texts, script, &mut output)?;

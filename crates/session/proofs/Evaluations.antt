@@ -1,4 +1,4 @@
--- How many distances a reply can tell of.
+-- How many distance computations a reply can report.
 use Rattle.std.proofs.Common.{◌≡◌, ℕ, ◌+◌, ◌*◌, ◌^◌, ◌≤◌, Bool, true, false, Option, Some, None, List, [], ◌∷◌, length, map, refl, arith}
 use Rattle.std.specs.Prelude.{◌==◌, is_some, nat_le, nat_lt, if◌then◌else◌}
 use Rattle.std.specs.List.{filter_map}
@@ -43,7 +43,7 @@ length-considered_pairs true left right few few' =
     let kept = length-filter (λ (p : Entry × Entry). nat_lt p.0.0 p.1.0) (product left right) in
     let fewer = count_by-le-length (λ (p : Entry × Entry). nat_lt p.0.0 p.1.0) (product left right) in omega (arith, all, kept, fewer, few)
 
--- ---- how many distances the answers tell of
+-- ---- how many distance computations the answers report
 
 module _ (dist : List ℕ → List ℕ → ℕ) (pivots : List (List ℕ)) where
   range-few : (rows : List Entry) (query : List ℕ) (radius : ℕ) → (range_answer dist pivots rows query radius).evals ≤ length pivots + length rows
@@ -58,7 +58,7 @@ module _ (dist : List ℕ → List ℕ → ℕ) (pivots : List (List ℕ)) where
   unfolding join_answer
   join-few pairs radius = count_by-le-length (pair_needs_distance dist pivots radius) pairs
 
--- ---- replies that tell of none
+-- ---- replies that report none
 
 sample-none : (samples : Option (List (List ℕ))) → evals_of (sample_reply samples) ≡ 0
 sample-none None = refl

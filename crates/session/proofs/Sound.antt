@@ -38,7 +38,7 @@ pub not_there : (o : Option Row) → is_some o ≡ false → o ≡ None
 not_there None none = refl
 not_there (Some row) none = absurd (let both : true ≡ false = none in cc)
 
--- a reply tells of few distances
+-- a reply reports few distance computations
 pub few_evals : (store : Store) → IsStore store → (asked : Command) → evals_of (reply_of (state_of store) asked) ≤ 2 ^ 32
 few_evals store sound asked =
     let many = length_under store.tables in
@@ -52,7 +52,7 @@ module _ (store : Store) (sound : IsStore store) where
     below : c < length store.tables
     below = let four = sound.four in omega (arith, four, low)
 
-    -- a table by its place, whatever stands past the last
+    -- a table by its place, whatever is past the last
     pub at_place : (default : List Row) → get_or store.tables c default ≡ rows_at store.tables c
     at_place default = get_or_default store.tables c default [] below
 

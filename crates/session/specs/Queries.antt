@@ -19,7 +19,7 @@ pub record HoldsRows (s : State) (c : ℕ) (known : List Object) (table : List R
   pub rows : IsPermutation (entries_in s.members c) (entries_of table)
 
 -- What a line is to a state: a command, which decides the reply and the state after it, or a line that is no command,
--- which is answered at once, tells of no distance and changes nothing. Nothing is said where memory runs out.
+-- which is answered at once, reports no distance computations and changes nothing. Nothing is said if memory runs out.
 abbrev pub ReadsLine : Result (Result Command Reply) Memory → State → Line → Type 0
 ReadsLine (Ok (Ok read)) s line = (reply s line ≡ reply_to s read) × (next_state s line ≡ state_after s read) × IsWellFormed s.space read
 ReadsLine (Ok (Err said)) s line = (said ≡ reply s line) × (next_state s line ≡ s) × HoldsObject s.space said × (evals_of said ≡ 0)

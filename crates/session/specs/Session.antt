@@ -14,8 +14,8 @@ pub record Session : Type 0 where
   pub ended : Bool
 
 -- A reply comes exactly if the session hasn't ended, unless memory runs out: it is that of the state to the line, any
--- object in it is one of the space, and the session goes on with the state after the line. If memory runs out the session
--- has ended, and an ended session stays as it is.
+-- object in it is one of the space, and the session goes on with the state after the line. If memory runs out the
+-- session has ended, and an ended session stays as it is.
 abbrev pub AnswersTurn : Result Reply Ending → Session → Line → Session → Type 0
 AnswersTurn (Ok said) old line new =
     (old.ended ≡ false) × (said ≡ reply old.state line) × HoldsObject old.state.space said × (new.state ≡ next_state old.state line) × (new.ended ≡ false)

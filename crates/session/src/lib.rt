@@ -1,6 +1,6 @@
 //! A session: one reply after the other, from one state to the next.
 //!
-//! Ranges, nearest objects and joins are answered with few distances, by the distances to the pivots. The
+//! Ranges, nearest objects and joins are answered with few distance computations, by the distances to the pivots. The
 //! pivots are chosen when the samples close, at the first command that isn't a sample.
 #![tactic(auto)]
 

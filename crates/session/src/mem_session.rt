@@ -55,7 +55,7 @@ impl<M: Metric> MemSession<M> {
     ghost use Rattle.session.specs.Session.{AnswersTurn};
     ghost use Rattle.session.specs.declared.mem_session.Ending.{Ending};
 
-    /// A session over an empty store of the space, which `metric` measures. So many pivots are wanted, 0 to
+    /// A session over an empty store of the space, which `metric` measures. This many pivots are wanted, 0 to
     /// 8. It takes no memory.
     pub fn new(alloc: Global, space: Space, metric: M, pivots: u8) -> Result<MemSession<M>, Memory>
         requires fits { IsTrue (fits space) }

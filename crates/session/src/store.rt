@@ -40,7 +40,7 @@ ghost use Rattle.std.specs.Prelude.{◌≡◌, ◌+◌, ◌^◌, ◌<◌, ◌≤
     ghost use Rattle.row_table.specs.Tables.{row_with};
     ghost use Rattle.spb_defs.specs.declared.TheConstants.{MEMORY_CAP};
 
-    /// An empty store of the space, where so many pivots are wanted. It takes no memory.
+    /// An empty store of the space, with this many pivots wanted. It takes no memory.
     pub(crate) fn new(alloc: Global, space: Space, wanted: u8) -> Store
         requires fits { IsTrue (fits space) }
         requires few { wanted ≤ 8 }

@@ -67,7 +67,7 @@ fn pivots_spare_distances(rt: HostRuntime) -> Result<(), Fail> {
     Ok(())
 }
 
-// Of the four pairs the pivots tell three: 1-1 is within, and 2-1 and 1-9 aren't.
+// The pivots decide three of the four pairs: 1-1 is within, and 2-1 and 1-9 aren't.
 #[test]
 fn pivots_spare_pairs(rt: HostRuntime) -> Result<(), Fail> {
     let alloc = rt.alloc();

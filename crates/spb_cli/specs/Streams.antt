@@ -1,4 +1,4 @@
--- What an answer of a stream over std's reader or writer says of the bytes, where those are known.
+-- What an answer of a stream over std's reader or writer says of the bytes, if those are known.
 use Rattle.std.specs.Prelude.{◌≡◌, ℕ, ◌≤◌, List, [], length, take, Option, Result, Ok, Err}
 use Rattle.std.specs.Io.KnownBytes.{Keeps, Appends, Consumes, IsAtEnd}
 use Rattle.spb_edge.specs.declared.source.Take.{Take}
@@ -7,8 +7,8 @@ use Rattle.spb_edge.specs.declared.sink.Put.{Put}
 use Rattle.spb_edge.specs.declared.sink.Put.TheVariants.{Took, Failed as PutFailed}
 use Rattle.spb_edge.specs.Fault.{next_count}
 
--- the reader gave the bytes got; where the source is at its end the reader is and gave none, and where
--- the source failed it kept all
+-- the reader gave the bytes got; if the source is at its end so is the reader, and it gave none; if the source failed
+-- the reader kept all
 abbrev pub ReadsFrom : Take → Option (List ℕ) → Option (List ℕ) → List ℕ → Type 0
 ReadsFrom (Got n) old new into = Consumes old new (take n into)
 ReadsFrom End old new into = Consumes old new [] × IsAtEnd new
@@ -20,16 +20,16 @@ CountsTake (Got n) before now = now ≡ before
 CountsTake End before now = now ≡ before
 CountsTake TakeFailed before now = now ≡ next_count before
 
--- the writer holds a front of the bytes behind what it held
+-- the writer holds a prefix of the bytes after what it held
 abbrev pub AppendsPrefix : Option (List ℕ) → Option (List ℕ) → List ℕ → Type 0
 AppendsPrefix old new bytes = (n : ℕ) × (n ≤ length bytes) × Appends old new (take n bytes)
 
--- that many of the bytes were written, or some front of them
+-- that many of the bytes were written, or some prefix of them
 abbrev pub WritesPrefix : {E : Type 0} → Result ℕ E → Option (List ℕ) → Option (List ℕ) → List ℕ → Type 0
 WritesPrefix (Ok n) old new bytes = Appends old new (take n bytes)
 WritesPrefix (Err _) old new bytes = AppendsPrefix old new bytes
 
--- what was taken of the piece was written, or the sink failed and wrote some front of it
+-- what was taken of the piece was written, or the sink failed and wrote some prefix of it
 abbrev pub WritesTo : Put → Option (List ℕ) → Option (List ℕ) → List ℕ → Type 0
 WritesTo (Took n) old new piece = Appends old new (take n piece)
 WritesTo PutFailed old new piece = AppendsPrefix old new piece

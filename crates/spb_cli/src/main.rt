@@ -44,7 +44,7 @@ fn words<R: Env + AllocGlobal>(rt: &R) -> Result<Vec<String>, Status>
     }
 }
 
-/// What the program ends with where the arguments can't be had: they aren't text, or memory ran out.
+/// What the program ends with if the arguments can't be read: they aren't text, or memory ran out.
 fn status_of(error: &io::Error) -> Status
     ensures memory { error_kind error.now ≡ ErrorKind.OutOfMemory → result ≡ Status.NoMemory }
     ensures other { error_kind error.now ≢ ErrorKind.OutOfMemory → result ≡ Status.Usage }
@@ -73,8 +73,8 @@ fn work<R: Read + Drop, W: Write + Drop>(
     run(alloc, words, &mut input, &mut output, &mut disk)
 }
 
-/// What the program ends with. The line of the status is written first, where it has one; that it can't be
-/// written changes nothing.
+/// What the program ends with. The line of the status is written first, if it has one; a failure to write it changes
+/// nothing.
 fn end_with<W: Write + Drop>(alloc: Global, status: &Status, writer: W) -> ExitCode
     ensures number { exit_status result ≡ code_of status.now }
 {
@@ -83,7 +83,7 @@ fn end_with<W: Write + Drop>(alloc: Global, status: &Status, writer: W) -> ExitC
     ExitCode::from(code(status))
 }
 
-/// Writes the line of the status where it has one.
+/// Writes the line of the status if it has one.
 ///
 /// # Errors
 ///

@@ -1,7 +1,7 @@
 //! The process's streams as a source and a sink.
 //!
-//! Nothing is told of the bytes that come and go, since they are the world's. Over a reader or a
-//! writer whose bytes are known, clauses say what was read and written.
+//! Nothing is known of the bytes that come and go. If the bytes of a reader or a writer are known,
+//! clauses say what was read and written.
 mod sink;
 mod source;
 

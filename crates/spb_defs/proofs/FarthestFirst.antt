@@ -27,7 +27,7 @@ first_place-earliest n (x ∷ xs) (suc k) inside is =
     let rest = first_place-earliest n xs k (omega arith) is in
     grind (arith, nat_tests)
 
--- the places at the front of the choice are the choice of fewer
+-- a prefix of the choice is the choice of fewer
 take-whole : (dist : List ℕ → List ℕ → ℕ) (samples : List (List ℕ)) (turn n : ℕ) → turn ≡ n → take turn (chosen_places dist samples n) ≡ chosen_places dist samples turn
 take-whole dist samples turn n is =
     let many = chosen-length dist samples n in
@@ -50,7 +50,7 @@ take-chosen dist samples turn (suc n) within = either (λ (below : turn ≤ n). 
         let below : turn ≤ n = grind (arith, nat_tests) in
         take-front dist samples turn n below ∙ rest below
 
--- and each place is the next one behind them
+-- and each place is the next one after them
 at-last : (dist : List ℕ → List ℕ → ℕ) (samples : List (List ℕ)) (n : ℕ) → get_or (chosen_places dist samples (suc n)) n 0 ≡ next_place dist samples (chosen_places dist samples n)
 unfolding chosen_places
 at-last dist samples n =

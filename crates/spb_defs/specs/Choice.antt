@@ -9,19 +9,18 @@ use Rattle.metrics_builtin.specs.Vectors.{greatest}
 abbrev pub sample_at : List Object → ℕ → List ℕ
 sample_at samples place = slice_index_or samples place []
 
--- what a place is worth: nothing where it is chosen already, else more than the sum of its distances to the
--- chosen ones
+-- what a place is worth: 0 if it is chosen already, else one more than the sum of its distances to the chosen ones
 abbrev pub worth : Distance → List Object → List ℕ → ℕ → ℕ
 worth dist samples chosen place =
     if list_any (λ other. other == place) chosen then 0
     else 1 + sum_by (λ other. dist (sample_at samples other) (sample_at samples place)) chosen
 
--- the first place where the number stands
+-- the first place that holds the number
 abbrev pub first_place : ℕ → List ℕ → ℕ
 first_place n [] = 0
 first_place n (m ∷ ms) = if m == n then 0 else suc (first_place n ms)
 
--- the place to choose behind the chosen ones: the first of those that are worth most
+-- the next place to choose: the first of those that are worth most
 abbrev pub next_place : Distance → List Object → List ℕ → ℕ
 next_place dist samples chosen =
     let worths = map (worth dist samples chosen) (range_with_len 0 (length samples)) in

@@ -40,7 +40,7 @@ first_place-within (x ∷ y ∷ ys) some = either (first_place-within (y ∷ ys)
         let all = first_place-behind _ x (y ∷ ys) not in
         omega arith
 
--- and the greatest stands there
+-- and the greatest is there
 pub first_place-holds : (xs : List ℕ) → get_or xs (first_place (greatest xs) xs) 0 ≡ greatest xs
 first_place-holds [] = refl
 first_place-holds (x ∷ xs) = either (first_place-holds xs) (x == greatest (x ∷ xs)) refl
@@ -64,7 +64,7 @@ greatest-above (x ∷ xs) (suc k) =
 
 -- ---- the places
 
--- so many places are chosen
+-- this many places are chosen
 pub chosen-length : (dist : Distance) (samples : List Object) (n : ℕ) → length (chosen_places dist samples n) ≡ n
 unfolding chosen_places
 chosen-length dist samples zero = refl

@@ -1,4 +1,4 @@
--- A line is a command exactly where it is that command's one line.
+-- A line is a command exactly if it is that command's one line.
 use Rattle.std.proofs.Common.{◌≡◌, ℕ, ◌^◌, ◌<◌, ◌≤◌, ◌==◌, Bool, true, false, cond, List, [], ◌∷◌, refl, sym, ap, subst, ◌∙◌, arith, Option, Some, None, codes}
 use Rattle.std.specs.Prelude.{Result, Ok, Err, IsTrue, nat_le}
 use Rattle.std.specs.Fmt.{decimal}

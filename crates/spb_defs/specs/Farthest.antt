@@ -16,7 +16,7 @@ IsFarthestFirst dist samples places =
     (sum_to dist samples (take turn places) place ≤ sum_to dist samples (take turn places) (slice_index places turn))
     × (sum_to dist samples (take turn places) place ≡ sum_to dist samples (take turn places) (slice_index places turn) → slice_index places turn ≤ place)
 
--- so many places of samples, no two of them equal, and each the first of those farthest from the ones before it
+-- this many places of samples, no two of them equal, and each the first of those farthest from the ones before it
 pub record IsChoice (dist : Distance) (samples : List Object) (n : ℕ) (places : List ℕ) : Type 0 where
   pub count : length places ≡ n
   pub within : All (λ place. place < length samples) places

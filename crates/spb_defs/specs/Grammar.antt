@@ -13,7 +13,7 @@ use Rattle.spb_defs.specs.declared.What.TheVariants as what
 use Rattle.spb_defs.specs.Numbers.{at_least, number_within}
 use Rattle.spb_defs.specs.ObjectText.{object_of}
 
--- what is read goes on, and the first failure stands
+-- what is read goes on, and the first failure stays
 infixl 10 ◌>>=◌
 abbrev pub ◌>>=◌ : {A B : Type 0} → Result A What → (A → Result B What) → Result B What
 (Ok x) >>= f = f x

@@ -31,16 +31,16 @@ text_of (Sets universe most) object = set_text (components object)
 
 -- ---- the object of a text
 
--- the numbers that the words spell, where each spells one of at most the bound
+-- the numbers that the words spell, if each spells one of at most the bound
 abbrev pub numbers_within : ℕ → List (List ℕ) → Option (List ℕ)
 numbers_within bound [] = Some []
 numbers_within bound (word ∷ words) = option_and_then (λ n. option_and_then (λ ns. Some (n ∷ ns)) (numbers_within bound words)) (number_within bound word)
 
--- the numbers of at most the bound that stand between commas
+-- the numbers of at most the bound that are between commas
 abbrev pub numbers_in : ℕ → List ℕ → Option (List ℕ)
 numbers_in bound text = numbers_within bound (slice_split (λ b. b == 44) text)
 
--- the object of these components, where there are `dim`
+-- the object of these components, if there are `dim`
 abbrev pub vector_with : ℕ → List ℕ → Option (List ℕ)
 vector_with dim numbers = if length numbers == dim then Some (object_of_components numbers) else None
 
@@ -49,11 +49,11 @@ abbrev pub is_rising : List ℕ → Bool
 is_rising (x ∷ y ∷ rest) = nat_lt x y && is_rising (y ∷ rest)
 is_rising _ = true
 
--- the object of these elements, where they rise and are at most `most`
+-- the object of these elements, if they rise and are at most `most`
 abbrev pub set_with : ℕ → List ℕ → Option (List ℕ)
 set_with most elements = if nat_le (length elements) most && is_rising elements then Some (object_of_components elements) else None
 
--- the bytes that the text was decoded to, where it is their text
+-- the bytes that the text was decoded to, if it is their text
 abbrev pub string_with : List ℕ → Result (List ℕ) FromHexError → Option (List ℕ)
 string_with text (Ok bytes) = if bytes_eq (encode_lower bytes) text then Some bytes else None
 string_with text (Err e) = None

@@ -1,5 +1,5 @@
--- What is kept of an object: its distances to the pivots, and the cells that they lie in. What these tell of a distance
--- that wasn't computed: a lower and an upper bound.
+-- What is kept of an object: its distances to the pivots, and the cells that they are in. These give a lower and an
+-- upper bound of a distance that wasn't computed.
 use Rattle.std.specs.Prelude.{ℕ, ◌+◌, ◌-◌, Bool, ◌&&◌, nat_le, List, map}
 use Rattle.std.specs.List.{zip, list_all, list_any}
 use Rattle.metric_laws.specs.Objects.{Object, Distance}

@@ -16,11 +16,11 @@ name_of what.Id = codes "id"
 name_of what.Number = codes "number"
 name_of what.Object = codes "object"
 
--- an item of an answer stands behind a space
+-- an item of an answer comes after a space
 abbrev pub id_text : ℕ → List ℕ
 id_text id = 32 ∷ decimal id
 
--- a rank stands as its id and its distance
+-- a rank is written as its id and its distance
 abbrev pub rank_text : ℕ × ℕ → List ℕ
 rank_text rank = 32 ∷ decimal rank.1 ++ 64 ∷ decimal rank.0
 

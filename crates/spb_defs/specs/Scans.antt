@@ -19,25 +19,25 @@ Rank = ℕ × ℕ
 
 -- ---- ranges
 
--- the ids of the rows whose object is within the radius of the query, rising
+-- the ids of the rows whose object is within the radius of the query, ascending
 abbrev pub scan_range : Distance → List Entry → Object → ℕ → List ℕ
 scan_range dist rows query radius = sorted_by nat_lt (map (λ row. row.0) (filter (λ row. nat_le (dist query row.1) radius) rows))
 
--- the pivots don't tell whether the row is within the radius of the query
+-- the pivots don't decide whether the row is within the radius of the query
 abbrev pub needs_distance : Distance → List Object → Object → ℕ → Entry → Bool
 needs_distance dist pivots query radius row =
     let asked = vector_of dist pivots query in
     let cells = cells_of dist pivots row.1 in
     meets asked radius cells && not (is_sure asked radius cells)
 
--- the pivots alone tell that the row is within the radius of the query
+-- the pivots alone show that the row is within the radius of the query
 abbrev pub is_included : Distance → List Object → Object → ℕ → Entry → Bool
 is_included dist pivots query radius row =
     let asked = vector_of dist pivots query in
     let cells = cells_of dist pivots row.1 in
     meets asked radius cells && is_sure asked radius cells
 
--- how many distances are computed: one for each pivot, and one for each row of which the pivots don't tell
+-- how many distances are computed: one for each pivot, and one for each row that the pivots don't decide
 abbrev pub range_evals : Distance → List Object → List Entry → Object → ℕ → ℕ
 range_evals dist pivots rows query radius = length pivots + count_by (needs_distance dist pivots query radius) rows
 
@@ -67,7 +67,7 @@ ranks_of dist rows query = map (λ row. (dist query row.1, row.0)) rows
 abbrev pub scan_near : Distance → List Entry → Object → ℕ → List Rank
 scan_near dist rows query k = take k (sorted_by goes_before (ranks_of dist rows query))
 
--- the k-th of all rows, if there are so many
+-- the k-th of all rows, if there are that many
 abbrev pub kth_rank : Distance → List Entry → Object → ℕ → Option Rank
 kth_rank dist rows query k = slice_get (sorted_by goes_before (ranks_of dist rows query)) (k - 1)
 
@@ -75,13 +75,13 @@ kth_rank dist rows query k = slice_get (sorted_by goes_before (ranks_of dist row
 abbrev pub rank_bound : Distance → List Object → Object → Entry → Rank
 rank_bound dist pivots query row = (lower_bound (vector_of dist pivots query) (cells_of dist pivots row.1), row.0)
 
--- the pivots don't put the row behind the last rank; where there is none, none is behind it
+-- the pivots don't prune the row: its bound doesn't come after the last rank, if there is one
 abbrev pub is_in_reach : Distance → List Object → Object → Option Rank → Entry → Bool
 is_in_reach dist pivots query None row = true
 is_in_reach dist pivots query (Some last) row = not (goes_before last (rank_bound dist pivots query row))
 
--- how many distances are computed: one for each pivot, and one for each row whose bound and id the pivots
--- don't put behind the k-th rank
+-- how many distances are computed: one for each pivot, and one for each row whose bound and id don't come after the
+-- k-th rank
 abbrev pub near_evals : Distance → List Object → List Entry → Object → ℕ → ℕ
 near_evals dist pivots rows query k = length pivots + count_by (is_in_reach dist pivots query (kth_rank dist rows query k)) rows
 
@@ -114,21 +114,21 @@ considered_pairs same left right = if same then filter (λ p. nat_lt p.0.0 p.1.0
 abbrev pub scan_join : Distance → List (Entry × Entry) → ℕ → List (ℕ × ℕ)
 scan_join dist pairs radius = sorted_by goes_before (map (λ p. (p.0.0, p.1.0)) (filter (λ p. nat_le (dist p.0.1 p.1.1) radius) pairs))
 
--- the pivots don't tell whether the objects of the pair are within the radius of each other
+-- the pivots don't decide whether the objects of the pair are within the radius of each other
 abbrev pub pair_needs_distance : Distance → List Object → ℕ → Entry × Entry → Bool
 pair_needs_distance dist pivots radius p =
     let a = cells_of dist pivots p.0.1 in
     let b = cells_of dist pivots p.1.1 in
     pair_meets a radius b && not (pair_is_sure a radius b)
 
--- the pivots alone tell that the objects of the pair are within the radius of each other
+-- the pivots alone show that the objects of the pair are within the radius of each other
 abbrev pub pair_is_included : Distance → List Object → ℕ → Entry × Entry → Bool
 pair_is_included dist pivots radius p =
     let a = cells_of dist pivots p.0.1 in
     let b = cells_of dist pivots p.1.1 in
     pair_meets a radius b && pair_is_sure a radius b
 
--- how many distances are computed: one for each pair of which the pivots don't tell
+-- how many distances are computed: one for each pair that the pivots don't decide
 abbrev pub join_evals : Distance → List Object → List (Entry × Entry) → ℕ → ℕ
 join_evals dist pivots pairs radius = count_by (pair_needs_distance dist pivots radius) pairs
 

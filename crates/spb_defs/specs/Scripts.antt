@@ -15,7 +15,7 @@ with_lf text = text ++ 10 ∷ []
 abbrev pub IsAnswered : State → List (List ℕ) → List (List ℕ) → Type 0
 IsAnswered s lines replies = play s (flat_map with_lf lines) ≡ flat_map with_lf replies
 
--- an empty store of points with two components from 0 to 255, and one that wants so many pivots
+-- an empty store of points with two components from 0 to 255, and one that wants this many pivots
 abbrev pub plane : State
 plane = empty_in_memory (L1 2 255) 0
 
@@ -28,11 +28,11 @@ AreAnswered lines replies = IsAnswered plane lines replies
 abbrev pub AreAnsweredWith : ℕ → List (List ℕ) → List (List ℕ) → Type 0
 AreAnsweredWith pivots lines replies = IsAnswered (plane_with pivots) lines replies
 
--- the line, behind a first sample, is given the reply, and a further sample comes too late
+-- the line, after a first sample, is given the reply, and a further sample comes too late
 abbrev pub ClosesSampling : List ℕ → List ℕ → Type 0
 ClosesSampling line reply = AreAnswered (codes "sample 0,0" ∷ line ∷ codes "sample 1,1" ∷ []) (codes "ok" ∷ reply ∷ codes "late" ∷ [])
 
--- three samples, of which 0,0 and then 255,0 are chosen where two are, and what they are answered
+-- three samples, of which 0,0 and then 255,0 are chosen if two are, and what they are answered
 abbrev pub three_samples : List (List ℕ)
 three_samples = codes "sample 0,0" ∷ codes "sample 255,0" ∷ codes "sample 10,10" ∷ []
 

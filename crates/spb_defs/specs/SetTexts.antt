@@ -14,7 +14,7 @@ use Rattle.metrics_builtin.specs.SetLaws.{rising-tail, components-IsSubset}
 use Rattle.spb_defs.specs.ObjectText.{numbers_text, set_text, numbers_in, is_rising, set_with, set_of_text}
 use Rattle.spb_defs.specs.TextLaws.{AreRead, numbers_in-text, text-numbers_in, IsFree, IsFree-numbers_text}
 
--- ---- rising numbers
+-- ---- ascending numbers
 
 pub rising_from : (xs : List ℕ) → is_rising xs ≡ true → IsStrictlyIncreasing xs
 rising_from [] e k h = absurd (omega arith)

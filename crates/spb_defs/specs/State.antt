@@ -38,7 +38,7 @@ pub record State : Type 0 where
   pub samples : Option (List Object)
   pub members : Members
 
--- the store in memory before the first line, where so many pivots are wanted
+-- the store in memory before the first line, with this many pivots wanted
 abbrev pub empty_in_memory : Space → ℕ → State
 empty_in_memory space wanted =
     record { space = space; wanted = wanted; pivots = []; curve = None; cap = MEMORY_CAP; samples = Some []; members = [] }
@@ -107,10 +107,10 @@ pub record IsState (s : State) : Type 0 where
   pub sampling : IfSome s.samples (λ kept. (s.pivots ≡ []) × (s.members ≡ []))
   pub in_file : IfSome s.curve (λ curve. (s.samples ≡ None) × (s.wanted ≡ length s.pivots))
 
--- the row of a member, where it is of the collection
+-- the row of a member, if it is in the collection
 abbrev pub entry_in : ℕ → Key × List ℕ → Option Entry
 entry_in c member = if member.0.0 == c then Some (member.0.1, member.1) else None
 
--- the rows of a collection, by rising id
+-- the rows of a collection, by ascending id
 unfoldable pub entries_in : Members → ℕ → List Entry
 entries_in members c = filter_map (entry_in c) members

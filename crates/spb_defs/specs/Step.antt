@@ -24,7 +24,7 @@ abbrev pub sample_reply : Option (List (List ℕ)) → Reply
 sample_reply None = Late
 sample_reply (Some kept) = if nat_le SAMPLE_LIMIT (length kept) then Full else Done
 
--- the samples with one more, where it is kept
+-- the samples with one more, if it is kept
 abbrev pub with_sample : Option (List (List ℕ)) → List ℕ → Option (List (List ℕ))
 with_sample None object = None
 with_sample (Some kept) object = if nat_le SAMPLE_LIMIT (length kept) then Some kept else Some (kept ++ object ∷ [])
@@ -98,7 +98,7 @@ abbrev pub state_after_read : State → Result Command What → State
 state_after_read s (Ok read) = state_after s read
 state_after_read s (Err failed) = s
 
--- the reply to a line; End is no line, and what stands for it is never asked
+-- the reply to a line; End is no line, and its reply is never used
 unfoldable pub reply : State → Line → Reply
 reply s (line.Text text) = reply_read s (command_of s.space text)
 reply s line.Long = Long
@@ -112,7 +112,7 @@ next_state s line.End = s
 
 -- ---- distances
 
--- how many distances a reply tells that were evaluated: 0 where it tells of none
+-- how many distance computations a reply reports: 0 if it reports none
 abbrev pub evals_of : Reply → ℕ
 evals_of Done = 0
 evals_of Exists = 0

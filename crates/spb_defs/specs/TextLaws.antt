@@ -63,7 +63,7 @@ IsFree-decimal mark n h small =
     let d : IsInRange 48 57 (get_or (decimal n) k 0) = digit_at (decimal n) k (decimal_is_IsNumeral n small).0.1 inside in
     other_byte (get_or (decimal n) k 0) mark (let low = d.0 in omega arith))
 
--- words that are joined come apart again
+-- words that are joined are split again
 pub split_joined : (mark : ℕ) (words : List (List ℕ)) → 0 < length words → AllByRecursion (IsFree mark) words → slice_split (λ b. b == mark) (join_with_byte mark words) ≡ words
 split_joined mark [] some h = absurd (omega arith)
 split_joined mark (w ∷ []) some h = slice_split_none (λ b. b == mark) w h.0

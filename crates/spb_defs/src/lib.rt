@@ -1,7 +1,7 @@
 //! What the program means: its state, its commands and their replies.
 //!
-//! The definitions stand in `specs/` and speak of lists and whole numbers alone. Here stand the types
-//! that they share with the code.
+//! The definitions are in `specs/` and speak of lists and whole numbers alone. Here are the types that they share with
+//! the code.
 #![tactic(auto)]
 
 mod laws;
@@ -55,7 +55,7 @@ pub enum CurveKind {
 pub enum Asked {
     /// Answers a script from an empty store in memory.
     Mem(MemorySetup),
-    /// Makes a store in a file: by this curve, with at most so many pivots (1 to 8) and objects (1 to 65536), of this
+    /// Makes a store in a file: by this curve, with at most this many pivots (1 to 8) and objects (1 to 65536), of this
     /// space.
     Make {
         curve: CurveKind,
@@ -67,7 +67,7 @@ pub enum Asked {
     Run,
     /// Checks a store in a file.
     Check,
-    /// Makes a store in a file and runs a generated script on it, of so many objects (1 to 65536).
+    /// Makes a store in a file and runs a generated script on it, of this many objects (1 to 65536).
     Trial {
         seed: u64,
         count: u32,
@@ -113,7 +113,7 @@ pub enum What {
 /// The answer to a range query.
 #[derive(Debug, Drop)]
 pub struct RangeAnswer {
-    /// The ids of the objects within the radius, rising.
+    /// The ids of the objects within the radius, ascending.
     pub ids: Ids,
     /// How many distances were computed, those to the pivots among them.
     pub evals: u64,
@@ -160,14 +160,14 @@ pub enum Reply {
     Object(Bytes),
     /// How many objects the collection has.
     Count(u32),
-    /// The ids within the radius, rising; how many distances are evaluated; how many objects are
+    /// The ids within the radius, ascending; how many distances were computed; how many objects are
     /// within without one.
     Range { ids: Ids, evals: u64, sure: u64 },
-    /// The nearest, each as its distance and id, by distance and then by id; how many distances are
-    /// evaluated.
+    /// The nearest, each as its distance and id, by distance and then by id; how many distances
+    /// were computed.
     Near { rows: Ranks, evals: u64 },
-    /// The pairs of ids within the radius, in order; how many distances are evaluated; how many pairs are
-    /// within without one.
+    /// The pairs of ids within the radius, in order; how many distances were computed; how many pairs are within
+    /// without one.
     Join { pairs: Pairs, evals: u64, sure: u64 },
     /// The line is no command, and this fails first in it.
     Bad(What),

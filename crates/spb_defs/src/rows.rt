@@ -28,7 +28,7 @@ pub fn worked_rows()
     ensures dropped { AreAnswered
         (codes "add 0 2 3,4" ∷ codes "drop 0 77" ∷ codes "get 0 2" ∷ codes "count 0" ∷ codes "get 3 2" ∷ codes "drop 0 2" ∷ codes "count 0" ∷ [])
         (codes "ok" ∷ codes "absent" ∷ codes "object 3,4" ∷ codes "count 1" ∷ codes "absent" ∷ codes "ok" ∷ codes "count 0" ∷ []) }
-    // Without pivots all are evaluated, but those behind a last rank at distance 0.
+    // Without pivots all distances are computed, but for those after a last rank at distance 0.
     ensures nearest { AreAnswered
         (codes "add 0 1 0,0" ∷ codes "add 0 2 3,4" ∷ codes "add 0 3 10,0" ∷ codes "add 0 4 3,0" ∷ codes "near 0 2 3,1" ∷ codes "near 0 1 3,4" ∷ codes "near 0 9 3,0" ∷ codes "near 1 1 0,0" ∷ [])
         (codes "ok" ∷ codes "ok" ∷ codes "ok" ∷ codes "ok" ∷ codes "near 2 evals 4: 4@1 2@3" ∷ codes "near 1 evals 2: 2@0" ∷ codes "near 4 evals 4: 4@0 1@3 2@4 3@7" ∷ codes "near 0 evals 0:" ∷ []) }
@@ -55,9 +55,9 @@ pub fn worked_samples()
     ensures join { ClosesSampling (codes "join 0 1 1") (codes "join 0 evals 0 sure 0:") }
 {}
 
-/// Scripts with pivots: how many distances they spare, and which samples are chosen.
+/// Scripts with pivots: how many distances they save, and which samples are chosen.
 pub fn worked_pivots()
-    // Two pivots, 0,0 and 255,0, spare the distances that they tell.
+    // Two pivots, 0,0 and 255,0, save the distances that they decide.
     ensures spared { AreAnsweredWith 2
         (three_samples ++ codes "add 0 1 0,0" ∷ codes "add 0 2 3,4" ∷ codes "add 0 3 10,0" ∷ codes "add 0 4 100,100" ∷ codes "add 0 5 255,0"
         ∷ codes "range 0 8 3,0" ∷ codes "range 1 8 3,0" ∷ codes "range 0 4294967295 3,0" ∷ codes "near 0 2 3,0" ∷ codes "near 0 9 3,0"
@@ -72,7 +72,7 @@ pub fn worked_pivots()
     ensures twins { AreAnsweredWith 2
         (three_samples ++ codes "add 0 1 7,7" ∷ codes "add 0 2 7,7" ∷ codes "join 0 0 0" ∷ codes "add 1 8 1,0" ∷ codes "add 1 7 0,1" ∷ codes "near 1 1 0,0" ∷ [])
         (thrice_ok ++ codes "ok" ∷ codes "ok" ∷ codes "join 1 evals 1 sure 0: 1-2" ∷ codes "ok" ∷ codes "ok" ∷ codes "near 1 evals 3: 7@1" ∷ []) }
-    // An object whose bound is the distance of the last rank is evaluated where its id is less.
+    // An object whose bound is the distance of the last rank is measured if its id is less.
     ensures tied { AreAnsweredWith 1
         (codes "sample 0,0" ∷ codes "add 0 9 0,2" ∷ codes "add 0 3 6,0" ∷ codes "near 0 1 2,0" ∷ [])
         (codes "ok" ∷ codes "ok" ∷ codes "ok" ∷ codes "near 1 evals 3: 3@4" ∷ []) }

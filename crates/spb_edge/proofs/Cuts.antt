@@ -12,7 +12,7 @@ not_true : (b : Bool) → (b ≡ true → ⊥) → b ≡ false
 not_true true h = absurd (h refl)
 not_true false h = refl
 
--- a front in whose places no LF stands has none
+-- a prefix with an LF at none of its places has none
 pub HasNoLf-take : (hay : List ℕ) (n : ℕ) → n ≤ length hay → Nowhere (Passes (is_byte 10) hay) 0 n → HasNoLf (take n hay)
 HasNoLf-take hay n within nowhere = λ k d below.
     let inside : k < n = omega (arith, length-take n hay) in
@@ -29,7 +29,7 @@ cut_at hay n within passes =
     let after : drop n hay ≡ 10 ∷ drop (n + 1) hay = rw (add-one, drop-cons hay n 0 within) (ap (λ x. x ∷ drop (suc n) hay) ten) in
     sym (take-append-drop n hay) ∙ ap (λ xs. take n hay ++ xs) after
 
--- what a part has behind its first k
+-- what a part has after its first k
 pub range-later : (xs : List ℕ) (from to k : ℕ) → slice_range xs (from + k) to ≡ drop k (slice_range xs from to)
 range-later xs from to k =
     between_is xs (from + k) to ∙ sym (drop-drop k from (take to xs)) ∙ ap (drop k) (sym (between_is xs from to))

@@ -1,4 +1,4 @@
--- Ranges of a disk in memory, and the images that a crash may leave of them.
+-- Written ranges of a disk in memory, and its crash states.
 use Rattle.std.proofs.Common.{◌≡◌, ◌⊎◌, inl, inr, ⊎_elim, ℕ, ◌+◌, ◌-◌, ◌≤◌, min, max, List, [], ◌∷◌, ◌++◌, length, take, drop, replicate, refl, sym, ◌∙◌, ap, subst, arith, length-append, append-nil}
 use Rattle.std.proofs.Math.ListN.{drop_of_length-le}
 use Rattle.std.proofs.Math.Seq.{take-length}
@@ -18,19 +18,19 @@ leaves-last kept (r ∷ ranges) range c (e, (torn, left)) =
     let rest = leaves-last e ranges range c left in
     (rest.0, ((e, (torn, rest.1.0)), rest.1.1))
 
--- one more range joins
+-- one more range is added
 pub join-more : (len : ℕ) (ranges : List Extent) (least at count next : ℕ) → ReachTo len ranges least → at ≤ least → next ≤ max least (at + count)
     → ReachTo len (ranges ++ record { at = at; len = count } ∷ []) next
 join-more len [] least at count next join le most = (omega arith, omega arith)
 join-more len (r ∷ ranges) least at count next (within, rest) le most = (within, join-more (max len (r.at + r.len)) ranges least at count next rest le most)
 
--- with a byte at each place of a range, the next ones join
+-- with a byte at each place of a range, the next ones follow
 pub join-rest : (byte : ℕ) (kept : List ℕ) (range : Extent) (ranges : List Extent) (least : ℕ) → ReachTo (length kept) (range ∷ ranges) least
     → ReachTo (length (overwritten_at kept range.at (replicate range.len byte))) ranges least
 join-rest byte kept range ranges least (within, rest) =
     subst (λ (n : ℕ). ReachTo n ranges least) (sym (length-overwritten_at kept range.at (replicate range.len byte) within ∙ ap (λ n. max (length kept) (range.at + n)) (length-replicate range.len byte))) rest
 
--- so many of a byte in each range is among what a crash may leave
+-- each range filled with a byte is a crash state
 pub fills : (byte : ℕ) (kept : List ℕ) (ranges : List Extent) (least : ℕ) → ReachTo (length kept) ranges least → AreTornOver kept ranges (with_ranges_filled byte kept ranges)
 fills byte kept [] least join = refl
 fills byte kept (range ∷ ranges) least join =
@@ -42,12 +42,12 @@ fills byte kept (range ∷ ranges) least join =
       ),
     )
 
--- what was kept is among it too
+-- so is what was kept
 pub leaves-kept : (kept : List ℕ) (ranges : List Extent) → AreTornOver kept ranges kept
 leaves-kept kept [] = refl
 leaves-kept kept (range ∷ ranges) = (kept, (torn-same range.at range.len kept, leaves-kept kept ranges))
 
--- once a range is written, each image that a crash may leave is one from before, torn there
+-- once a range is written, each crash state is one from before, torn there
 pub follows-range : (old : Contents) (at : ℕ) (bytes image : List ℕ) → at ≤ length old.image → (image ≡ old.image) ⊎ (image ≡ overwritten_at old.image at bytes)
     → FollowsBy (IsTornWrite at (length bytes)) (IsCrashState old) (IsCrashState (with_range at (length bytes) image old))
 follows-range old at bytes image within which c (inl now) = (old.image, inl refl, whole which)
@@ -59,7 +59,7 @@ follows-range old at bytes image within which c (inr left) =
     let before = leaves-last old.kept old.unsynced (record { at = at; len = length bytes }) c left in
     (before.0, inr before.1.0, before.1.1)
 
--- the bytes put over an image that had grown by them already
+-- the bytes overwrite an image that had grown by them already
 pub grown-overwritten_at : (old items with_ranges_filled : List ℕ) (at count growth byte len : ℕ) → at ≤ length old → growth ≡ count - min count (length old - at)
     → items ≡ old ++ replicate growth byte → len ≡ length items → with_ranges_filled ≡ overwritten_at items at (replicate count byte)
     → take len (with_ranges_filled ++ drop (length with_ranges_filled) items) ≡ overwritten_at old at (replicate count byte)
@@ -83,7 +83,7 @@ grown-overwritten_at old items with_ranges_filled at count growth byte len withi
         drop_of_length-le (old ++ replicate growth byte) (omega (arith, le, length-append old (replicate growth byte), length-replicate growth byte))
         ∙ sym (drop_of_length-le old (omega (arith, le)))
 
--- an image that was made longer by so many of a byte
+-- an image that was made longer by this many of a byte
 pub resized : (old reserved items : List ℕ) (len growth byte n : ℕ) → reserved ≡ old → len ≡ length reserved → n ≡ length reserved
     → items ≡ take (len + growth) reserved ++ replicate (len + growth - n) byte → items ≡ old ++ replicate growth byte
 resized old reserved items len growth byte n same is also made =

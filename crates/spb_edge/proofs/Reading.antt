@@ -26,7 +26,7 @@ pub record InLine {S : Type 0} {G : Ghosts S} (limit : ℕ) (old now : LineReade
   pub at_end : IsTrue (has_ended now) → (unread now ≡ []) × NothingLeft (rest now)
   pub after_end : IsTrue (has_ended old) → IsTrue (has_ended now) × (front ≡ []) × (now.source.now ≡ old.source.now)
 
--- what was taken off for a line is that line, before the lines behind it
+-- what was taken off for a line is that line, before the lines after it
 lines_of-line : (limit : ℕ) (line : Line) (bytes before after : List ℕ) (ended : Bool) → IsLineAt limit line bytes (Some after) ended → before ≡ bytes ++ after → lines_of limit before ≡ line ∷ lines_of limit after
 lines_of-line limit line bytes before after ended (piece, none, is, inl lf) front =
     let at : before ≡ piece ++ 10 ∷ after = front ∙ ap (λ xs. xs ++ after) lf ∙ append_assoc piece (10 ∷ []) after in
@@ -113,7 +113,7 @@ module _ {S : Type 0} {G : Ghosts S} where
         (front ++ piece, All-append (λ b. is_lf b ≡ false) front piece so.no_lf none, longer front so.so_far, inl (sym (append_assoc front piece (10 ∷ [])))),
       )
 
-  -- a line that goes on behind all that was unread
+  -- a line that goes on after all that was unread
   pub goes_on : (limit : ℕ) (old now seen new : LineReader S G) (line longer : Line) (front : List ℕ) → InLine limit old now line front → IsScanned limit line (Ok (Open longer)) now seen → seen.source.now ≡ now.source.now → taken seen ≡ taken now
       → rest new ≡ rest seen → taken new ≡ taken seen + length (unread new)
       → TakesOff old new (front ++ unread now) × HasNoLf (front ++ unread now) × (longer ≡ line_of limit (front ++ unread now))
@@ -146,7 +146,7 @@ empty_from_length : (xs : List ℕ) → length xs ≡ 0 → xs ≡ []
 empty_from_length [] e = refl
 empty_from_length (x ∷ xs) e = absurd (omega arith)
 
--- the end of the stream, behind a line that no LF ended
+-- the end of the stream, after a line that no LF ended
 pub at_end : (limit : ℕ) (line closed : Line) (front : List ℕ) (left : Option (List ℕ)) → HasNoLf front → line ≡ line_of limit front → IsLastLine limit line closed → NothingLeft left → IsTakenFor limit (Ok closed) front left true
 at_end limit line closed front left none is closes nothing = elim (closes front is) [
   | inl e ↦ subst (λ l. IsTakenFor limit (Ok l) front left true) (sym e.1) (empty_from_length front e.0, nothing, refl)
@@ -169,7 +169,7 @@ module _ {S : Type 0} {G : Ghosts S} where
   pub answered : (limit : ℕ) (line : Line) (old new : LineReader S G) (bytes : List ℕ) → TakesOff old new bytes → IsLineAt limit line bytes (rest new) (has_ended new) → IsNextLine limit line (rest old) (rest new)
   answered limit line old new bytes off at = IsNextLine-from_line limit line bytes (rest old) (rest new) (has_ended new) at off.front
 
--- End comes behind no bytes
+-- End comes after no bytes
 pub LowersBudget-closed : (limit : ℕ) (closed : Line) (front : List ℕ) (left : Option (List ℕ)) (ended : Bool) (before now : ℕ) → IsTakenFor limit (Ok closed) front left ended → now + length front ≡ before → LowersBudget (Ok closed) before now
 LowersBudget-closed limit (Text text) front left ended before now (piece, none, is, inl e) sum = let some = ap length e in omega (arith, length-append piece (10 ∷ []))
 LowersBudget-closed limit (Text text) front left ended before now (piece, none, is, inr e) sum = let same = ap length e.0 in omega arith
@@ -183,7 +183,7 @@ IsNextLine-closed limit Long front old new ended at = IsNextLine-long limit fron
 IsNextLine-closed limit End front old new ended at = IsNextLine-end limit front old new at.0 at.1
 
 module _ {S : Type 0} {G : Ghosts S} where
-  -- the stream ended behind the line so far
+  -- the stream ended after the line so far
   pub at_stream_end : (limit : ℕ) (old now seen new : LineReader S G) (line longer closed : Line) (front : List ℕ) → InLine limit old now line front → IsScanned limit line (Ok (Open longer)) now seen → seen.source.now ≡ now.source.now → taken seen ≡ taken now
       → Refills (Ok false) seen new → IsLastLine limit longer closed
       → (bytes : List ℕ) × TakesOff old new bytes × IsTakenFor limit (Ok closed) bytes (rest new) (has_ended new)
@@ -194,7 +194,7 @@ module _ {S : Type 0} {G : Ghosts S} where
       let all = front ++ unread now in
       (all, on.0, subst (IsTakenFor limit (Ok closed) all (rest new)) (sym left.6) (at_end limit longer closed all (rest new) on.1 on.2 closes nothing))
 
-  -- more came behind the line so far; the source hadn't ended
+  -- more came after the line so far; the source hadn't ended
   pub more_came : (limit : ℕ) (old now seen new : LineReader S G) (line longer : Line) (front : List ℕ) → InLine limit old now line front → IsScanned limit line (Ok (Open longer)) now seen → seen.source.now ≡ now.source.now → taken seen ≡ taken now
       → has_ended seen ≡ has_ended now → (IsTrue (has_ended seen) → ⊥) → Refills (Ok true) seen new → (bytes : List ℕ) × InLine limit old new longer bytes
   more_came limit old now seen new line longer front so sees same total alike_end running left =
@@ -213,7 +213,7 @@ module _ {S : Type 0} {G : Ghosts S} where
         },
       )
 
-  -- the reader may be asked for more behind a line that goes on
+  -- the reader may be asked for more after a line that goes on
   pub CanTakeLine-seen : (limit : ℕ) (old now seen : LineReader S G) (line later : Line) (front : List ℕ) → InLine limit old now line front → IsScanned limit line (Ok (Open later)) now seen → seen.source.now ≡ now.source.now → taken seen ≡ taken now → has_ended seen ≡ has_ended now → CanTakeLine seen
   CanTakeLine-seen limit old now seen line later front so (none, empty, long) same total alike_end =
       let sofar = so.total in record {
@@ -238,7 +238,7 @@ module _ {S : Type 0} {G : Ghosts S} where
         ended = λ end. absurd (not_ended_at_lf limit old now new line ended front so sees (sym alike_end ∙ end));
       }
 
-  -- behind the end the line so far is none
+  -- after the end the line so far is none
   pub EndsAgain-closed : (limit : ℕ) (old now seen : LineReader S G) (line later closed : Line) (front : List ℕ) → InLine limit old now line front → IsScanned limit line (Ok (Open later)) now seen → IsLastLine limit later closed → IsTrue (has_ended old) → EndsAgain (Ok closed)
   EndsAgain-closed limit old now seen line later closed front so (none, empty, long) closes ended =
       let after = so.after_end ended in

@@ -44,7 +44,7 @@ module _ (failing : List ℕ) where
       ∙ ap (λ (l : List Contents). now ∷ l) (earlier_contents-more (number + 1) (contents_after (is_failing failing number) k (take (written_count k) written) now) calls (drop (written_count k) written) call bytes
       (omega (arith, sums, sum, some, length-drop (written_count k) written)))
 
--- one more state joins those that might have left the image
+-- one more state is added to those that might have left the image
 had-more : (held : List Contents) (now : Contents) (c : List ℕ) → HadCrashState held c ⊎ IsCrashState now c → HadCrashState (held ++ now ∷ []) c
 had-more [] now c (inl had) = absurd had
 had-more [] now c (inr here) = inl here

@@ -27,12 +27,12 @@ empty_log failing stop call_room byte_room = record {
   faults = 0;
 }
 
--- whether the disk still runs after so many calls
+-- whether the disk still runs after this many calls
 abbrev pub is_running : Option ℕ → ℕ → Bool
 is_running None made = true
 is_running (Some stop) made = nat_lt made stop
 
--- whether a call that writes so many bytes is made at all: the disk runs, and its record has room
+-- whether a call that writes this many bytes is made at all: the disk runs, and its record has room
 abbrev pub is_made : Log → ℕ → Bool
 is_made log count = is_running log.stop (length log.calls) && nat_lt (length log.calls) log.call_room && nat_le (length log.written + count) log.byte_room
 
@@ -60,6 +60,6 @@ with_call call bytes log = record log {
 abbrev pub log_after : DiskCall → List ℕ → Log → Log
 log_after call bytes log = if is_made log (length bytes) then with_call call bytes log else with_refusal log
 
--- whether a call that writes so many bytes succeeds, if there is memory
+-- whether a call that writes this many bytes succeeds, if there is memory
 abbrev pub succeeds : Log → ℕ → Bool
 succeeds log count = is_made log count && (if fails_next log then false else true)

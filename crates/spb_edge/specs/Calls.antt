@@ -2,7 +2,7 @@
 use Rattle.std.specs.Prelude.{◌≡◌, ℕ, Bool}
 
 module _ {D : Type 0} (is_known knows_crashes : D → Bool) where
-  -- the disk goes on telling what it told
+  -- the same is known of the disk as before
   abbrev pub StaysKnown : D → D → Type 0
   StaysKnown old new = (is_known new ≡ is_known old) × (knows_crashes new ≡ knows_crashes old)
 

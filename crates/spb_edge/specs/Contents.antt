@@ -1,4 +1,4 @@
--- What a disk in memory holds, and which images a crash may leave of it.
+-- What a disk in memory holds, and its crash states.
 use Rattle.std.specs.Prelude.{◌≡◌, ◌⊎◌, ℕ, ◌+◌, ◌≤◌, max, List, [], ◌∷◌, ◌++◌, replicate}
 use Rattle.spb_edge.specs.declared.contents.Extent.{Extent}
 use Rattle.spb_edge.specs.Crash.{IsTornWrite}
@@ -33,13 +33,13 @@ with_range at count image now = record now { image = image; unsynced = now.unsyn
 abbrev pub synced_contents : Contents → Contents
 synced_contents now = record now { kept = now.image; unsynced = [] }
 
--- so many of a byte in each range
+-- each range filled with a byte
 abbrev pub with_ranges_filled : ℕ → List ℕ → List Extent → List ℕ
 with_ranges_filled byte image [] = image
 with_ranges_filled byte image (range ∷ ranges) = with_ranges_filled byte (overwritten_at image range.at (replicate range.len byte)) ranges
 
--- each range begins within what the ones before make of an image of so many bytes, or at its end; and
--- all of them reach to so many bytes or further
+-- each range begins within what the ones before make of an image of this many bytes, or at its end; and all of them
+-- reach to this many bytes or further
 abbrev pub ReachTo : ℕ → List Extent → ℕ → Type 0
 ReachTo len [] least = least ≤ len
 ReachTo len (range ∷ ranges) least = (range.at ≤ len) × ReachTo (max len (range.at + range.len)) ranges least

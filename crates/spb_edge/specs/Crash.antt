@@ -1,29 +1,29 @@
--- What a crash may leave of an image, and at which moments.
+-- Crash states: what a crash may leave of an image, and at which moments.
 --
 -- A disk has a moment, a number that doesn't fall. `crash_states c` says that a crash now may leave the
 -- image c, and `crash_states_since t c` that a crash at some moment from t on may have left it.
 use Rattle.std.specs.Prelude.{◌≡◌, ◌⊎◌, ℕ, ◌+◌, ◌<◌, ◌≤◌, max, List, length, slice_index}
 
--- the images are alike outside of a range
+-- the images are equal outside a range
 abbrev pub EqualOutside : ℕ → ℕ → List ℕ → List ℕ → Type 0
 EqualOutside from to old new = (k : ℕ) → k < length old → (k < from) ⊎ (to ≤ k) → slice_index new k ≡ slice_index old k
 
--- a write of so many bytes, cut short by a crash: any bytes in its range, and any part of the growth
--- past the old end; the same elsewhere
+-- a write of this many bytes, cut short by a crash: any bytes in its range, and any part of the growth past the old
+-- end; the same elsewhere
 pub record IsTornWrite (at count : ℕ) (old new : List ℕ) : Type 0 where
   pub no_shorter : length old ≤ length new
   pub no_longer : length new ≤ max (length old) (at + count)
   pub alike : EqualOutside at (at + count) old new
 
--- each image that may be left now comes by a step from one that might have been left before
+-- each crash state now follows by a step from one before
 abbrev pub FollowsBy : (List ℕ → List ℕ → Type 0) → (List ℕ → Type 0) → (List ℕ → Type 0) → Type 0
 FollowsBy step old new = (c : List ℕ) → new c → (d : List ℕ) × old d × step d c
 
--- each image that may be left now might have been left before
+-- each crash state now was one before
 abbrev pub Includes : (List ℕ → Type 0) → (List ℕ → Type 0) → Type 0
 Includes old new = (c : List ℕ) → new c → old c
 
--- a crash leaves this image and no other: nothing is pending
+-- this image is the only crash state: nothing is pending
 abbrev pub IsDurable : List ℕ → (List ℕ → Type 0) → Type 0
 IsDurable image crash_states = (c : List ℕ) → crash_states c → c ≡ image
 

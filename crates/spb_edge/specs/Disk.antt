@@ -10,7 +10,7 @@ abbrev pub IsSize : Result ℕ DiskError → ℕ → Type 0
 IsSize (Ok n) size = n ≡ size
 IsSize (Err e) size = Unit {0}
 
--- the image with the bytes laid over it
+-- the image, overwritten with the bytes from a place on
 abbrev pub overwritten_at : List ℕ → ℕ → List ℕ → List ℕ
 overwritten_at image at bytes = take at image ++ bytes ++ drop (at + length bytes) image
 
@@ -24,13 +24,13 @@ abbrev pub Extends : {E : Type 0} → Result Unit E → ℕ → ℕ → ℕ → 
 Extends (Ok _) old end new = new ≡ max old end
 Extends (Err e) old end new = (old ≤ new) × (new ≤ max old end)
 
--- a failure is counted, and the count never falls; want of memory is no answer
+-- a failure is counted, and the count never falls; the call never runs out of memory
 abbrev pub CountsFault : {A : Type 0} → Result A DiskError → ℕ → ℕ → Type 0
 CountsFault (Ok _) before now = before ≤ now
 CountsFault (Err Failed) before now = (before ≤ now) × HasRisen before now
 CountsFault (Err Memory) before now = ⊥
 
--- the same of a write from a size to an end: memory is wanted only for growth
+-- the same of a write from a size to an end, which runs out of memory only if it grows
 abbrev pub CountsWriteFault : Result Unit DiskError → ℕ → ℕ → ℕ → ℕ → Type 0
 CountsWriteFault (Ok _) size end before now = before ≤ now
 CountsWriteFault (Err Failed) size end before now = (before ≤ now) × HasRisen before now

@@ -1,11 +1,11 @@
--- Counts of faults: 64-bit numbers that stand still at their last value.
+-- Counts of faults: 64-bit numbers that stay at their last value.
 use Rattle.std.specs.Prelude.{ℕ, ◌+◌, ◌-◌, ◌^◌, ◌≤◌, min, Result, Ok, Err}
 
--- one more, or as many where the number stands at its last value
+-- one more, or the same at the last value
 abbrev pub next_count : ℕ → ℕ
 next_count n = min (n + 1) (2 ^ 64 - 1)
 
--- the count rose, or stands at its last value
+-- the count rose, or is at its last value
 abbrev pub HasRisen : ℕ → ℕ → Type 0
 HasRisen before now = next_count before ≤ now
 

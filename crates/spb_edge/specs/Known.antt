@@ -1,18 +1,18 @@
--- Content that is told to contracts or not, and bytes that go from its front or to its end.
+-- Content that contracts know or don't, and bytes taken from its start or added to its end.
 use Rattle.std.specs.Prelude.{◌≡◌, ℕ, List, [], ◌++◌, Option, Some, None, refl}
 use Rattle.std.proofs.Common.{append_assoc, append-nil, ap}
 
--- front, and then what is told behind it
+-- a prefix, and then what is known after it
 abbrev pub with_prefix : List ℕ → Option (List ℕ) → Option (List ℕ)
 with_prefix front None = None
 with_prefix front (Some rest) = Some (front ++ rest)
 
--- what was told, and then piece
+-- what was known, and then a piece
 abbrev pub with_suffix : Option (List ℕ) → List ℕ → Option (List ℕ)
 with_suffix None piece = None
 with_suffix (Some old) piece = Some (old ++ piece)
 
--- nothing more changes nothing
+-- an empty piece changes nothing
 pub with_suffix-nil : (old : Option (List ℕ)) → with_suffix old [] ≡ old
 with_suffix-nil None = refl
 with_suffix-nil (Some old) = ap Some (append-nil old)

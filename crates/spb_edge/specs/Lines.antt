@@ -13,13 +13,13 @@ is_lf b = b == 10
 abbrev pub HasNoLf : List ℕ → Type 0
 HasNoLf bytes = All (λ b. is_lf b ≡ false) bytes
 
--- the pieces, without the last one where it is empty
+-- the pieces, without the last one if it is empty
 abbrev pub without_empty_end : List (List ℕ) → List (List ℕ)
 without_empty_end [] = []
 without_empty_end (piece ∷ []) = if length piece == 0 then [] else piece ∷ []
 without_empty_end (piece ∷ next ∷ more) = piece ∷ without_empty_end (next ∷ more)
 
--- a piece as a line: its text, or Long where it is over the limit
+-- a piece as a line: its text, or Long if it is over the limit
 abbrev pub line_of : ℕ → List ℕ → Line
 line_of limit piece = if nat_le (length piece) limit then Text piece else Long
 

@@ -48,8 +48,8 @@ disk_after call bytes d = record d { log = log_after call bytes d.log; held = he
 abbrev pub new_disk : List ℕ → List ℕ → Option ℕ → ℕ → ℕ → DiskState
 new_disk image failing stop calls bytes = record { first = image; log = empty_log failing stop calls bytes; held = fresh_contents image calls; reads = 0 }
 
--- what a write answers: want of memory comes only from a write that is made, doesn't fail, and grows the
--- image, and changes nothing
+-- what a write answers: only a write that is made, doesn't fail and grows the image runs out of memory, and then
+-- nothing changes
 abbrev pub AnswersWrite : Result Unit DiskError → DiskState → ℕ → List ℕ → DiskState → Type 0
 AnswersWrite (Ok _) old at bytes new = (succeeds old.log (length bytes) ≡ true) × (new ≡ disk_after (Write at (length bytes)) bytes old)
 AnswersWrite (Err Failed) old at bytes new = (succeeds old.log (length bytes) ≡ false) × (new ≡ disk_after (Write at (length bytes)) bytes old)
@@ -67,7 +67,7 @@ replayed failing number now [] written = now
 replayed failing number now (call ∷ calls) written =
     replayed failing (number + 1) (contents_after (is_failing failing number) call (take (written_count call) written) now) calls (drop (written_count call) written)
 
--- one of them might have left the image at a crash
+-- the image was a crash state of one of them
 abbrev pub HadCrashState : List Contents → List ℕ → Type 0
 HadCrashState [] c = ⊥
 HadCrashState (held ∷ earlier_contents) c = IsCrashState held c ⊎ HadCrashState earlier_contents c
@@ -80,15 +80,15 @@ contents_before_calls first log = earlier_contents log.failing 1 (fresh_contents
 abbrev pub crash_states_since : DiskState → ℕ → List ℕ → Type 0
 crash_states_since d t c = IsCrashState d.held c ⊎ HadCrashState (drop t (contents_before_calls d.first d.log)) c
 
--- the record tells what the disk holds
+-- the record gives what the disk holds
 pub record IsReplayed (first : List ℕ) (log : Log) (held : Contents) : Type 0 where
   pub replay : replayed log.failing 1 (fresh_contents first log.call_room) log.calls log.written ≡ held
   pub bytes : sum_by written_count log.calls ≡ length log.written
   pub ranges : length held.unsynced ≤ length log.calls
   pub room : held.room ≡ log.call_room
 
--- the image that a crash leaves by choice: all that was written, the kept image, or that with so many of
--- a byte in each range since
+-- the image that a crash leaves by choice: all that was written, the kept image, or that with this many of a byte in
+-- each range since
 abbrev pub chosen_crash_state : Choice → Contents → List ℕ
 chosen_crash_state KeepAll now = now.image
 chosen_crash_state DropAll now = now.kept

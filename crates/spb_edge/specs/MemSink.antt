@@ -30,12 +30,12 @@ free_room s = s.room - length s.taken
 abbrev pub fails_next : SinkState → Bool
 fails_next s = (free_room s == 0) || list_any (λ number. number == next_count s.calls) s.failing
 
--- what a call answers: a failure where its number is among those that fail or no room is left, else
--- as many bytes as there is room for
+-- what a call answers: a failure if its number is among those that fail or no room is left, else as
+-- many bytes as there is room for
 abbrev pub answer_of : SinkState → ℕ → Put
 answer_of s len = if fails_next s then Failed else Took (min len (free_room s))
 
--- what stands after the answer: a call that fails is counted among the faults, and no other
+-- the sink after the answer: a call that fails is counted among the faults, and no other
 pub record AnswersPut (old : SinkState) (len : ℕ) (answer : Put) (new : SinkState) : Type 0 where
   pub answer_is : answer ≡ answer_of old len
   pub one_call : new.calls ≡ next_count old.calls

@@ -26,13 +26,13 @@ pub record IsNewSource (source : SourceState) (bytes : List ℕ) (piece : ℕ) (
 abbrev pub fails_next : SourceState → Bool
 fails_next s = list_any (λ number. number == next_count s.calls) s.failing
 
--- what a call answers: a failure where its number is among those that fail, else as many bytes as fit
--- the buffer and the piece, else the end
+-- what a call answers: a failure if its number is among those that fail, else as many bytes as fit the buffer and the
+-- piece, else the end
 abbrev pub answer_of : SourceState → ℕ → Take
 answer_of s room = if fails_next s then Failed
     else (if length s.left == 0 then End else Got (min (min (length s.left) s.piece) room))
 
--- what stands after the answer: a call that fails is counted among the faults, and no other
+-- the source after the answer: a call that fails is counted among the faults, and no other
 pub record AnswersTake (old : SourceState) (room : ℕ) (answer : Take) (new : SourceState) : Type 0 where
   pub answer_is : answer ≡ answer_of old room
   pub one_call : new.calls ≡ next_count old.calls

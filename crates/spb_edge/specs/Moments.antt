@@ -1,4 +1,4 @@
--- How a run of calls goes on, as far as the images are concerned that a crash may leave.
+-- How a run of calls goes on, as to its crash states.
 use Rattle.std.proofs.Common.{inl, inr, ⊎_elim, ℕ, List, arith}
 use Rattle.spb_edge.specs.Crash.{Elapses, CrashesLeaveOnly}
 
@@ -25,7 +25,7 @@ module _ {D : Type 0} (moment : D → ℕ) (crash_states_since : D → ℕ → L
     before = λ t c le left. ⊎_elim (λ was. inl was) (λ has. inr (of c has)) (run.before t c le left);
   }
 
-  -- one run behind another
+  -- one run after another
   pub joined : (old mid new : D) (P : List ℕ → Type 0) → CrashesLeaveOnly moment crash_states_since old mid P → CrashesLeaveOnly moment crash_states_since mid new P → CrashesLeaveOnly moment crash_states_since old new P
   joined old mid new P first second = record {
     later = omega (arith, first.later, second.later);

@@ -5,8 +5,8 @@ use Rattle.spb_edge.specs.Moments.{goes_on}
 
 module _ {D : Type 0} (is_known knows_crashes : D → Bool) (size_of : D → ℕ) (image : D → List ℕ)
     (crash_states : D → List ℕ → Type 0) (moment : D → ℕ) (crash_states_since : D → ℕ → List ℕ → Type 0) where
-  -- The length, the image where it is told, and the images that a crash may leave are the same; a crash
-  -- since the first state could leave no others; and time goes on.
+  -- The length, the image if it is known, and the crash states are the same; a crash since the first state could leave
+  -- no others; and time goes on.
   pub record IsQuiet (old new : D) : Type 0 where
     pub tells : is_known new ≡ is_known old
     pub tells_crashes_too : knows_crashes new ≡ knows_crashes old
@@ -30,7 +30,7 @@ module _ {D : Type 0} (is_known knows_crashes : D → Bool) (size_of : D → ℕ
     time = record { later = omega arith; nothing_else = λ t c le left. inl left; keeps = λ t c le left. left };
   }
 
-  -- one quiet stretch behind another
+  -- one quiet stretch after another
   pub quiet_chains : (old mid new : D) → IsQuiet old mid → IsQuiet mid new → IsQuiet old new
   quiet_chains old mid new first second = record {
     tells = second.tells ∙ first.tells;

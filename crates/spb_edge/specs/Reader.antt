@@ -19,7 +19,7 @@ module _ {S : Type 0} {G : Ghosts S} where
   abbrev pub unread : LineReader S G → List ℕ
   unread reader = slice_range reader.buffer reader.start reader.end
 
-  -- the bytes before the reader: the unread ones, and then what the source has left, where it tells
+  -- the bytes before the reader: the unread ones, and then what the source has left, if that is known
   abbrev pub rest : LineReader S G → Option (List ℕ)
   rest reader = with_prefix (unread reader) (G.left reader.source.now)
 
@@ -39,24 +39,24 @@ module _ {S : Type 0} {G : Ghosts S} where
   abbrev pub budget : LineReader S G → ℕ
   budget reader = 2 ^ 30 + length (unread reader) - reader.taken
 
-  -- a call took these bytes off the front of the rest: what was unread and then what it got from the
-  -- source, as many as the count rose, are these bytes and then what is unread now
+  -- a call took these bytes off the start of the rest: what was unread and then what it got from the source, as many as
+  -- the count rose, are these bytes and then what is unread now
   pub record TakesOff (old new : LineReader S G) (bytes : List ℕ) : Type 0 where
     pub front : rest old ≡ with_prefix bytes (rest new)
     pub count : taken old + length bytes + length (unread new) ≡ taken new + length (unread old)
     pub got : (got : List ℕ) × (unread old ++ got ≡ bytes ++ unread new) × (taken new ≡ taken old + length got)
 
--- nothing is left, where that is told
+-- nothing is left, if that is known
 abbrev pub NothingLeft : Option (List ℕ) → Type 0
 NothingLeft rest = IfSome rest (λ bytes. bytes ≡ [])
 
--- the reader may be asked: it took no more than the limit, and where the source has ended nothing is left
+-- the reader may be asked: it took no more than the limit, and if the source has ended nothing is left
 pub record CanTakeLine {S : Type 0} {G : Ghosts S} (reader : LineReader S G) : Type 0 where
   pub total : taken reader ≤ 2 ^ 30
   pub ended : IsTrue (has_ended reader) → (unread reader ≡ []) × NothingLeft (rest reader)
 
--- a line that is answered, by the bytes that were taken off for it: a piece without LF, and the LF or
--- the end of the stream, where the source has ended
+-- a line that is answered, by the bytes that were taken off for it: a piece without LF, and the LF or the end of the
+-- stream, if the source has ended
 abbrev pub IsLineAt : ℕ → Line → List ℕ → Option (List ℕ) → Bool → Type 0
 IsLineAt limit line bytes left ended = (piece : List ℕ) × HasNoLf piece × (line ≡ line_of limit piece)
     × ((bytes ≡ piece ++ 10 ∷ []) ⊎ ((bytes ≡ piece) × (0 < length piece) × NothingLeft left × IsTrue ended))
@@ -69,13 +69,13 @@ IsTakenFor limit (Ok Long) bytes left ended = IsLineAt limit Long bytes left end
 IsTakenFor limit (Ok End) bytes left ended = (bytes ≡ []) × NothingLeft left × IsTrue ended
 IsTakenFor limit (Err e) bytes left ended = HasNoLf bytes
 
--- an answer is the first of the lines that are left, or End where there is none
+-- an answer is the first of the lines that are left, or End if there is none
 abbrev pub IsFirstOf : Line → List Line → List Line → Type 0
 IsFirstOf (Text text) before after = before ≡ Text text ∷ after
 IsFirstOf Long before after = before ≡ Long ∷ after
 IsFirstOf End before after = (before ≡ []) × (after ≡ [])
 
--- the same of a stream that may be told; one that tells goes on telling
+-- the same of a stream that may be known; one that is known stays known
 abbrev pub IsNextLine : ℕ → Line → Option (List ℕ) → Option (List ℕ) → Type 0
 IsNextLine limit line (Some before) (Some after) = IsFirstOf line (lines_of limit before) (lines_of limit after)
 IsNextLine limit line (Some before) None = ⊥
@@ -90,7 +90,7 @@ HasLineCause (Err edge.ReadFault) before now total unread = (before ≤ now) × 
 HasLineCause (Err edge.InputLimit) before now total unread = (before ≤ now) × (0 < unread) × (total ≡ 2 ^ 30 + unread)
 HasLineCause (Err edge.Memory) before now total unread = (before ≤ now) × (total ≤ 2 ^ 30)
 
--- behind the end there is no line
+-- after the end there is no line
 abbrev pub EndsAgain : Result Line EdgeError → Type 0
 EndsAgain (Ok (Text text)) = ⊥
 EndsAgain (Ok Long) = ⊥
@@ -121,8 +121,7 @@ Refills (Err edge.InputLimit) old new =
     × (faults old ≤ faults new)
 Refills (Err edge.Memory) old new = ⊥
 
--- what a look at the unread bytes made of the line so far: it ended at the first LF, or goes on behind
--- all of them
+-- what a look at the unread bytes made of the line so far: it ended at the first LF, or goes on after all of them
 abbrev pub IsScanned : {S : Type 0} {G : Ghosts S} → ℕ → Line → Result Scanned Memory → LineReader S G → LineReader S G → Type 0
 IsScanned limit line (Ok (Ended longer)) old new = (piece : List ℕ) × HasNoLf piece × (unread old ≡ piece ++ 10 ∷ unread new)
     × ((front : List ℕ) → line ≡ line_of limit front → longer ≡ line_of limit (front ++ piece))
@@ -130,7 +129,7 @@ IsScanned limit line (Ok (Open longer)) old new = HasNoLf (unread old) × (unrea
     × ((front : List ℕ) → line ≡ line_of limit front → longer ≡ line_of limit (front ++ unread old))
 IsScanned limit line (Err e) old new = unread new ≡ unread old
 
--- the line that the bytes before the end of the stream make: none where there are none
+-- the line that the bytes before the end of the stream make: none if there are none
 abbrev pub IsLastLine : ℕ → Line → Line → Type 0
 IsLastLine limit line closed = (front : List ℕ) → line ≡ line_of limit front
     → ((length front ≡ 0) × (closed ≡ End)) ⊎ ((0 < length front) × (closed ≡ line_of limit front))

@@ -10,7 +10,7 @@ abbrev pub IsCountWithin : Put → ℕ → Type 0
 IsCountWithin (Took n) len = (0 < n) × (n ≤ len)
 IsCountWithin Failed len = Unit {0}
 
--- the bytes taken stand behind those taken before
+-- the bytes taken come after those taken before
 abbrev pub AppendsTaken : Put → List ℕ → Option (List ℕ) → Option (List ℕ) → Type 0
 AppendsTaken (Took n) piece old new = new ≡ with_suffix old (take n piece)
 AppendsTaken Failed piece old new = new ≡ old
@@ -20,7 +20,7 @@ abbrev pub CountsFault : Put → ℕ → ℕ → Type 0
 CountsFault (Took n) before now = before ≤ now
 CountsFault Failed before now = (before ≤ now) × HasRisen before now
 
--- all of the bytes were put, or a proper front of them
+-- all of the bytes were put, or a proper prefix of them
 abbrev pub PutsAll : {E : Type 0} → Result Unit E → List ℕ → Option (List ℕ) → Option (List ℕ) → Type 0
 PutsAll (Ok _) bytes old new = new ≡ with_suffix old bytes
 PutsAll (Err _) bytes old new = (n : ℕ) × (n < length bytes) × (new ≡ with_suffix old (take n bytes))

@@ -11,7 +11,7 @@ IsCountWithin (Got n) len = (0 < n) × (n ≤ len)
 IsCountWithin End len = Unit {0}
 IsCountWithin Failed len = Unit {0}
 
--- the bytes got stood at the front of what was left; the end comes only where nothing is left
+-- the bytes got are the first of what was left; the end comes only if nothing is left
 abbrev pub GivesBytes : Take → List ℕ → Option (List ℕ) → Option (List ℕ) → Type 0
 GivesBytes (Got n) into old new = old ≡ with_prefix (take n into) new
 GivesBytes End into old new = (new ≡ old) × IfSome old (λ bytes. bytes ≡ [])

@@ -1,4 +1,4 @@
--- Writes that are laid whole over an image, and those that a crash cuts short.
+-- Whole writes over an image, and torn ones, which a crash cuts short.
 use Rattle.std.proofs.Common.{◌≡◌, ◌⊎◌, inl, inr, ℕ, ◌+◌, ◌-◌, ◌<◌, ◌≤◌, max, List, ◌++◌, length, take, drop, slice_index, get_or, refl, ◌∙◌, ap, arith, length-append}
 use Rattle.std.proofs.lemmas.List.{length-take-le, length-drop, get_or_append_left, get_or-append_right, get_or-take, get_or-drop}
 use Rattle.spb_edge.specs.Crash.{IsTornWrite}
@@ -8,7 +8,7 @@ module _ (image : List ℕ) (at : ℕ) (bytes : List ℕ) (within : at ≤ lengt
   length-front : length (take at image ++ bytes) ≡ at + length bytes
   length-front = length-append (take at image) bytes ∙ ap (λ n. n + length bytes) (length-take-le at image within)
 
-  -- the length with the bytes laid
+  -- the length of the overwritten image
   pub length-overwritten_at : length (overwritten_at image at bytes) ≡ max (length image) (at + length bytes)
   length-overwritten_at = length-append (take at image ++ bytes) (drop (at + length bytes) image) ∙ omega (arith, length-front, length-drop (at + length bytes) image)
 
@@ -27,7 +27,7 @@ module _ (image : List ℕ) (at : ℕ) (bytes : List ℕ) (within : at ≤ lengt
       ∙ get_or-append_right (take at image) bytes at (at + k) 0 (length-take-le at image within) (omega arith)
       ∙ ap (λ i. get_or bytes i 0) on
 
-  -- behind it
+  -- after it
   pub overwritten_at-behind : (k : ℕ) → at + length bytes ≤ k → slice_index (overwritten_at image at bytes) k ≡ slice_index image k
   overwritten_at-behind k le =
       let on : at + length bytes + (k - (at + length bytes)) ≡ k = omega (arith, le) in
@@ -35,7 +35,7 @@ module _ (image : List ℕ) (at : ℕ) (bytes : List ℕ) (within : at ≤ lengt
       ∙ get_or-drop (at + length bytes) image (k - (at + length bytes)) 0
       ∙ ap (λ i. get_or image i 0) on
 
-  -- a write that was laid whole is among those that a crash may leave of it
+  -- a whole write is among its torn ones
   pub torn-overwritten_at : IsTornWrite at (length bytes) image (overwritten_at image at bytes)
   torn-overwritten_at = record {
     no_shorter = omega (arith, length-overwritten_at);

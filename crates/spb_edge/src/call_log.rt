@@ -64,7 +64,7 @@ impl Model for Log {
 }
 
 impl Log {
-    /// A record without a call, which takes its room now.
+    /// An empty record, which takes its memory now.
     pub(crate) fn new(
         alloc: Global,
         failing: &[u64],
@@ -127,7 +127,7 @@ impl Log {
         self.faults = self.faults.saturating_add(1);
     }
 
-    /// Writes down a call that is made, with the bytes that it writes, and counts it where it fails.
+    /// Records a call that is made, with the bytes that it writes, and counts it if it fails.
     pub(crate) fn note(&mut self, call: DiskCall, bytes: &[u8]) -> Result<(), DiskError>
         requires { is_made self.old (length bytes.now) ≡ true }
         ensures state { self.new ≡ with_call call bytes.now self.old }

@@ -56,7 +56,7 @@ fn reserve(image: &mut Vec<u8>, kept: &mut Vec<u8>, growth: usize) -> Result<(),
 }
 
 impl Contents {
-    /// A copy of the image, all of it kept, and room for so many ranges.
+    /// A copy of the image, all of it kept, and room for `room` ranges.
     pub(crate) fn new(alloc: Global, image: &[u8], room: usize) -> Result<Contents, Memory>
         ensures { IfOk result (λ now. now ≡ fresh_contents image.now room) }
     {
@@ -93,7 +93,7 @@ impl Contents {
         };
     }
 
-    /// Lays the bytes over the image. Memory is wanted only for growth, and nothing changes then.
+    /// Overwrites the image with the bytes. It runs out of memory only if the image grows, and then nothing changes.
     pub(crate) fn write(&mut self, at: usize, bytes: &[u8]) -> Result<(), Memory>
         requires within { at ≤ length self.old.image }
         requires room { length self.old.unsynced < self.old.room }
@@ -126,7 +126,7 @@ impl Contents {
         self.unsynced.clear();
     }
 
-    /// The kept image with so many of the byte in each range since.
+    /// The kept image, with each range written since filled with the byte.
     pub(crate) fn filled(&self, alloc: Global, byte: u8) -> Result<Bytes, Memory>
         ensures filled { IfOk result (λ bytes. bytes ≡ with_ranges_filled byte self.now.kept self.now.unsynced) }
         ensures leaves { IfOk result (λ bytes. AreTornOver self.now.kept self.now.unsynced bytes) }
@@ -139,7 +139,7 @@ impl Contents {
     }
 }
 
-/// Puts `count` of the byte over an image, within which or at whose end they begin.
+/// Overwrites an image with `count` of the byte, which begin within it or at its end.
 fn fill(image: &mut Vec<u8>, at: usize, count: usize, byte: u8) -> Result<(), Memory>
     requires { at ≤ length image.old.items }
     ensures { OnOk result (image.new.items ≡ overwritten_at image.old.items at (replicate count byte)) }
@@ -152,7 +152,7 @@ fn fill(image: &mut Vec<u8>, at: usize, count: usize, byte: u8) -> Result<(), Me
     Ok(())
 }
 
-/// Puts `count` of the byte into an image.
+/// Writes `count` of the byte into an image.
 fn fill_within(image: &mut [u8], at: usize, count: usize, byte: u8)
     requires { at + count ≤ length image.old }
     ensures { image.new ≡ overwritten_at image.old at (replicate count byte) }

@@ -16,9 +16,9 @@ pub enum DiskError {
 
 /// A file of bytes that grows at its end, and that a crash may leave half written.
 ///
-/// Every disk tells its length to contracts. Some tell their image too, and some of these which images
-/// a crash may leave. Between two syncs a crash may leave any bytes in the ranges that were written,
-/// and any part of the growth; what a sync that succeeded kept stays.
+/// Contracts know the length of every disk, of some also the image, and of some of these the crash states. Between two
+/// syncs a crash may leave any bytes in the ranges that were written, and any part of the growth; what a sync that
+/// succeeded kept stays.
 pub trait Disk {
     ghost use Rattle.std.specs.Prelude.{◌≡◌, ℕ, ◌+◌, ◌≤◌, Bool, List, IsTrue, OnOk, length, take, drop};
     ghost use Rattle.spb_edge.specs.Disk.{IsSize, Overwrites, Extends, CountsFault, CountsWriteFault};
@@ -26,19 +26,19 @@ pub trait Disk {
     ghost use Rattle.spb_edge.specs.Crash.{IsTornWrite, FollowsBy, Includes, IsDurable, Elapses};
     ghost use Rattle.spb_edge.specs.Quiet.{IsQuiet};
 
-    // whether the disk tells its image
+    // whether the image is known
     ghost is_known: { Self → Bool };
 
-    // whether it tells which images a crash may leave
+    // whether the crash states are known
     ghost knows_crashes: { Self → Bool };
 
-    // the image as it reads, where it is told
+    // the image as it reads, if it is known
     ghost image: { Self → List ℕ };
 
     // how long the image is
     ghost size_of: { Self → ℕ };
 
-    // the images that a crash may leave now; all of them where they aren't told
+    // the crash states now; all images if they aren't known
     ghost crash_states: { Self → List ℕ → Type 0 };
 
     // a number that doesn't fall
@@ -47,7 +47,7 @@ pub trait Disk {
     // the images that a crash may have left at some moment from the given one on
     ghost crash_states_since: { Self → ℕ → List ℕ → Type 0 };
 
-    // how many calls of `read` were made, where the image is told
+    // how many calls of `read` were made, if the image is known
     ghost reads: { Self → ℕ };
 
     // how many calls failed so far
@@ -66,7 +66,7 @@ pub trait Disk {
         ensures reads { IsTrue (is_known self.old) → reads self.new ≡ reads self.old }
         ensures fault { CountsFault result (faults self.old) (faults self.new) };
 
-    /// Fills `into` with the bytes from `at` on. Where the disk tells its image, they lie within it.
+    /// Fills `into` with the bytes from `at` on. If the image is known, they are within it.
     fn read(&mut self, at: u64, into: &mut [u8]) -> Result<(), DiskError>
         requires { IsTrue (is_known self.old) → at + length into.old ≤ size_of self.old }
         ensures data { IsTrue (is_known self.old) → OnOk result (into.new ≡ take (length into.old) (drop at (image self.old))) }
@@ -77,9 +77,9 @@ pub trait Disk {
         ensures reads { IsTrue (is_known self.old) → reads self.new ≡ next_count (reads self.old) }
         ensures fault { CountsFault result (faults self.old) (faults self.new) };
 
-    /// Lays `bytes` over the image from `at` on. Where the disk tells its image, that is at most its
-    /// end. Until a sync succeeds, a crash may leave any bytes in this range, and any part of the
-    /// growth, whatever the call answers. A refused write may have laid any bytes there.
+    /// Overwrites the image with `bytes` from `at` on. If the image is known, that is at most its end. Until a sync
+    /// succeeds, a crash may leave any bytes in this range, and any part of the growth, whatever the call answers. A
+    /// refused write may have left any bytes there.
     fn write_at(&mut self, at: u64, bytes: &[u8]) -> Result<(), DiskError>
         requires { IsTrue (is_known self.old) → at ≤ size_of self.old }
         ensures image { IsTrue (is_known self.old) → Overwrites result at bytes.now (image self.old) (image self.new) }
@@ -90,8 +90,8 @@ pub trait Disk {
         ensures reads { IsTrue (is_known self.old) → reads self.new ≡ reads self.old }
         ensures fault { CountsWriteFault result (size_of self.old) (at + length bytes.now) (faults self.old) (faults self.new) };
 
-    /// Asks that what was written be kept. The image stays as it reads. Where the call succeeds, a
-    /// crash leaves it and nothing else; until then, what it could leave before.
+    /// Syncs what was written. The image stays as it reads. If the call succeeds, it is the only
+    /// crash state; until then, a crash may leave what it could leave before.
     fn sync(&mut self) -> Result<(), DiskError>
         ensures kept { IsTrue (is_known self.old) → IsTrue (knows_crashes self.old) → OnOk result (IsDurable (image self.old) (crash_states self.new)) }
         ensures told { (is_known self.new ≡ is_known self.old) × (knows_crashes self.new ≡ knows_crashes self.old) }
@@ -102,10 +102,10 @@ pub trait Disk {
         ensures reads { IsTrue (is_known self.old) → reads self.new ≡ reads self.old }
         ensures fault { CountsFault result (faults self.old) (faults self.new) };
 
-    // a told image has the length that is told
+    // a known image has the known length
     ghost length_is: { (d : Self) → IsTrue (is_known d) → size_of d ≡ length (image d) };
 
-    // a crash may leave a told image as it reads
+    // a known image as it reads is a crash state
     ghost leaves_image: { (d : Self) → IsTrue (is_known d) → crash_states d (image d) };
 
     // what a crash may leave now is what it may have left since any moment so far

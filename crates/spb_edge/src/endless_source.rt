@@ -5,8 +5,8 @@ ghost use Rattle.spb_edge.specs.declared.source.Take.TheVariants.{Got};
 
 use crate::{Source, Take};
 
-/// A source that gives one byte again and again. It never fails, never ends, and tells nothing to
-/// contracts.
+/// A source that gives one byte again and again. It never fails and never ends, and its content
+/// isn't known.
 #[derive(Clone, Copy, Debug, PartialEq, Eq)]
 pub struct EndlessSource {
     /// The byte.

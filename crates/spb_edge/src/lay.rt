@@ -1,11 +1,11 @@
-//! Bytes laid over an image in memory.
+//! Overwriting an image in memory.
 ghost use Rattle.std.specs.Prelude.{◌≡◌, ◌≤◌, ◌+◌, ◌<◌, OnOk, OnErr, length, vec_len, vec_capacity};
 ghost use Rattle.spb_edge.specs.Disk.{overwritten_at};
 
 use crate::Memory;
 
-/// Lays bytes over an image, within which or at whose end they begin. Memory is wanted only where they
-/// reach past the capacity, and nothing changes then.
+/// Overwrites an image with bytes that begin within it or at its end. It runs out of memory only if they reach past the
+/// capacity, and then nothing changes.
 pub(crate) fn lay(image: &mut Vec<u8>, at: usize, bytes: &[u8]) -> Result<(), Memory>
     requires { at ≤ length image.old.items }
     ensures laid { OnOk result (image.new.items ≡ overwritten_at image.old.items at bytes.now) }

@@ -1,7 +1,7 @@
 //! The outside of the store: where bytes come from and go to, and the lines of a stream.
 //!
-//! A source, a sink or a disk may tell its content to contracts or not. Each clause on content is
-//! said of what tells, and the clauses on faults hold of all.
+//! The content of a source, a sink or a disk may be known to contracts or not. Each clause on
+//! content is about known content, and the clauses on faults hold of all.
 #![tactic(auto)]
 
 mod call_log;

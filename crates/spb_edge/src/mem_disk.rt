@@ -1,4 +1,4 @@
-//! A disk in memory that keeps a record of its calls, and shows what a crash may leave.
+//! A disk in memory that keeps a record of its calls, and shows its crash states.
 ghost use Rattle.std.specs.Prelude.{◌≡◌, ◌+◌, ◌≤◌, [], IsTrue, true, IfOk, OnOk, length, take, drop, if◌then◌else◌};
 ghost use Rattle.spb_edge.specs.CallLog.{succeeds};
 ghost use Rattle.spb_edge.specs.Contents.{IsCrashState};
@@ -24,8 +24,7 @@ pub enum Choice {
     Fill(u8),
 }
 
-/// A disk in memory that keeps a record of its calls, some of which fail, and shows which images a crash
-/// may leave.
+/// A disk in memory that keeps a record of its calls, some of which fail, and shows its crash states.
 ///
 /// A write costs what it writes, and a sync a copy of the image. Each call looks its number up in the
 /// list of those that fail.

@@ -7,7 +7,7 @@ use crate::{Memory, Put, Sink};
 use std::alloc::Global;
 use std::marker::Model;
 
-/// A sink in memory with room for so many bytes, some of whose calls fail.
+/// A sink in memory with limited room, some of whose calls fail.
 #[derive(Debug, Drop)]
 pub struct MemSink {
     taken: Vec<u8>,
@@ -35,8 +35,8 @@ impl Model for MemSink {
 }
 
 impl MemSink {
-    /// An empty sink with room for `room` bytes, whose memory it takes now. Calls are numbered from 1,
-    /// and those whose number is in `failing` fail; any other fails exactly where no room is left.
+    /// An empty sink with room for `room` bytes, whose memory it takes now. Calls are numbered from 1, and those whose
+    /// number is in `failing` fail; any other fails exactly if no room is left.
     pub fn new(alloc: Global, room: usize, failing: &[u64]) -> Result<MemSink, Memory>
         ensures { IfOk result (λ sink. IsNewSink sink room failing.now) }
     {

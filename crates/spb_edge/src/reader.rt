@@ -57,7 +57,7 @@ impl Line {
         }
     }
 
-    /// The line that ends with the stream: none where it has no byte.
+    /// The line that ends with the stream: none if it has no byte.
     fn closed(self, limit: usize) -> Line
         ensures { IsLastLine limit self result }
     {
@@ -73,7 +73,7 @@ impl Line {
 enum Scanned {
     /// An LF ended it.
     Ended(Line),
-    /// It goes on behind them.
+    /// It goes on after them.
     Open(Line),
 }
 
@@ -102,7 +102,7 @@ impl From<Memory> for EdgeError {
     }
 }
 
-/// Gives the lines of a source one by one, however its bytes come in pieces.
+/// Gives the lines of a source one by one, however its bytes are cut into pieces.
 ///
 /// It keeps the reference that it was made with, and dropping it takes nothing from the source. Its
 /// buffer is part of it, so that only the text of a line takes memory.
@@ -120,7 +120,7 @@ pub struct LineReader<'a, S: Source> {
 impl<'a, S: Source> LineReader<'a, S> {
     ghost use Rattle.spb_edge.specs.Reader.{unread, rest, taken, faults, has_ended, budget, CanTakeLine, TakesOff, IsTakenFor, IsNextLine, HasLineCause, EndsAgain, LowersBudget, Refills, IsScanned};
 
-    /// A reader at the front of what the source has left. It takes no memory.
+    /// A reader of what the source has left. It takes no memory.
     pub fn new(_alloc: Global, source: &'a mut S) -> Result<LineReader<'a, S>, Memory>
         ensures made { IsOk result }
         ensures nothing_unread { IfOk result (λ reader. unread reader ≡ []) }
@@ -139,29 +139,28 @@ impl<'a, S: Source> LineReader<'a, S> {
         })
     }
 
-    /// The next line, however the source's bytes come in pieces: its text where it is within `limit`
-    /// bytes, [`Line::Long`] where it is over it, and [`Line::End`] where nothing is left.
+    /// The next line, however the source's bytes are cut into pieces: its text if it is within `limit` bytes,
+    /// [`Line::Long`] if it is over it, and [`Line::End`] if nothing is left.
     ///
-    /// No earlier call of this reader may have answered an error. `ReadFault` comes only where the
-    /// source counted a fault in this call, and `InputLimit` exactly where [`INPUT_LIMIT`] bytes were
-    /// taken and the next take gave more. Where one of these comes, each line that an LF ended among
-    /// the bytes taken within the limit was answered before. After an error the beginning of the line in
-    /// progress may be gone, and nothing more. It looks at each byte once, and copies the text of the
-    /// line into memory of its own.
+    /// No earlier call of this reader may have answered an error. `ReadFault` comes only if the source counted a fault
+    /// in this call, and `InputLimit` exactly if [`INPUT_LIMIT`] bytes were taken and the next take gave more. If one
+    /// of these comes, each line that an LF ended among the bytes taken within the limit was answered before. After an
+    /// error the beginning of the line in progress may be gone, and nothing more. It looks at each byte once, and
+    /// copies the text of the line into memory of its own.
     pub fn take_line(&mut self, alloc: Global, limit: usize) -> Result<Line, EdgeError>
         requires open { CanTakeLine self.old }
         ensures open { OnOk result (CanTakeLine self.new) }
-        // It is the first of the lines that are left, or End where there is none.
+        // It is the first of the lines that are left, or End if there is none.
         ensures line { IfOk result (λ line. IsNextLine limit line (rest self.old) (rest self.new)) }
         // Which bytes went, whatever the answer.
         ensures consumed { (bytes : List ℕ) × TakesOff self.old self.new bytes
             × IsTakenFor limit result bytes (rest self.new) (has_ended self.new) }
         ensures cause { HasLineCause result (faults self.old) (faults self.new) (taken self.new)
             (length (unread self.new)) }
-        // Behind the end of the stream the source isn't asked again.
+        // After the end of the stream the source isn't asked again.
         ensures after_end { IsTrue (has_ended self.old) → EndsAgain result }
         ensures unasked { IsTrue (has_ended self.old) → self.new.source.now ≡ self.old.source.now }
-        // A caller's loop over the lines ends, also where the source tells nothing.
+        // A caller's loop over the lines ends, also if the source's content isn't known.
         ensures progress { LowersBudget result (budget self.old) (budget self.new) }
         ensures name { self.new.source.ghost_name ≡ self.old.source.ghost_name }
     {
@@ -234,7 +233,7 @@ impl<'a, S: Source> LineReader<'a, S> {
     }
 }
 
-/// Takes the next bytes into the front of the buffer, `room` of them at most.
+/// Takes the next bytes into the start of the buffer, `room` of them at most.
 fn fill<S: Source>(source: &mut S, buffer: &mut [u8], room: usize) -> Take
     requires some { 0 < room }
     requires within { room ≤ length buffer.old }

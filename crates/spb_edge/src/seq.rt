@@ -31,7 +31,7 @@ impl<T: Copy> Seq<T> {
         Ok(Seq(Vec::from_slice(alloc, items)?))
     }
 
-    /// Puts `items` at the end. Where memory runs out nothing changes.
+    /// Appends `items`. If memory runs out nothing changes.
     pub fn append(&mut self, items: &[T]) -> Result<(), Memory>
         ensures ok { OnOk result (self.new ≡ self.old ++ items.now) }
         ensures err { OnErr result (self.new ≡ self.old) }

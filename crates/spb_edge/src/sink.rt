@@ -8,7 +8,7 @@ use thiserror::Error;
 /// What a call of [`Sink::put`] answers.
 #[derive(Clone, Copy, Debug, PartialEq, Eq)]
 pub enum Put {
-    /// So many bytes from the front of the piece, at least one, were taken.
+    /// This many of the first bytes of the piece, at least one, were taken.
     Took(usize),
     /// Nothing was taken, and the sink counted a fault.
     Failed,
@@ -19,7 +19,7 @@ pub trait Sink {
     ghost use Rattle.std.specs.Prelude.{ℕ, ◌<◌, List, Option, length};
     ghost use Rattle.spb_edge.specs.Sink.{AppendsTaken, IsCountWithin, CountsFault};
 
-    // the bytes taken so far, where the sink tells them
+    // the bytes taken so far, if they are known
     ghost taken: { Self → Option (List ℕ) };
 
     // how many calls failed so far
@@ -38,8 +38,7 @@ pub trait Sink {
 #[error("write fault")]
 pub struct WriteFault;
 
-/// Puts all of `bytes` into the sink, by as many calls as it takes. On a fault a proper front of them
-/// was put.
+/// Puts all of `bytes` into the sink, by as many calls as it takes. On a fault a proper prefix of them was put.
 pub fn put_all<K: Sink>(sink: &mut K, bytes: &[u8]) -> Result<(), WriteFault>
     ensures puts { PutsAll result bytes.now (K.taken sink.old) (K.taken sink.new) }
     ensures fault { CountsError result (K.faults sink.old) (K.faults sink.new) }

@@ -7,7 +7,7 @@ use crate::{Bytes, Disk, DiskError, Memory};
 use std::alloc::Global;
 use std::marker::Model;
 
-/// A disk in memory that never fails, and tells its image.
+/// A disk in memory that never fails and whose image is known.
 #[derive(Debug, Drop)]
 pub struct SureDisk {
     image: Vec<u8>,

@@ -6,7 +6,7 @@ use super::*;
 use std::alloc::Global;
 use std::test::Fail;
 
-/// Writes down the next line, and a bar behind it.
+/// Writes down the next line, and a bar after it.
 fn note<S: Source>(
     reader: &mut LineReader<'_, S>,
     alloc: Global,

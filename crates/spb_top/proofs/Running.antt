@@ -46,7 +46,7 @@ pub record Completes (script : List ℕ) (first : State) (written took left : Li
   pub text : written ++ play_lines now (lines_of LINE_LIMIT left) ≡ play first script
   pub whole : IsTrue ended ⊎ AreWhole took first written now
 
--- the same of a script that the reader tells at first
+-- the same of a script that is known at first
 abbrev pub Plays : {S : Type 0} {G : source.Ghosts S} → State → LineReader S G → LineReader S G → List ℕ → State → Type 0
 Plays first reader now written state = (script : List ℕ) → rest reader ≡ Some script → (gone : Gone script now) × Completes script first written gone.took gone.left state (has_ended now)
 
@@ -61,7 +61,8 @@ module _ {S K : Type 0} (G : source.Ghosts S) (H : sink.Ghosts K) where
     pub source : faults reader ≤ faults now
     pub sink_faults : H.faults output ≤ H.faults sink
 
--- by the state from which the session began: it goes on from one that lines lead to, from which the replies are complete
+-- by the state from which the session began: it goes on from one that lines lead to, from which the replies are
+-- complete
 module _ {S T : Type 0} {G : source.Ghosts S} (holds : T → State → Type 0) (leaves : T → T → State → Type 0) where
   pub record GoesOn (first : State) (session : T) (reader : LineReader S G) (session' : T) (now : LineReader S G) (written : List ℕ) : Type 0 where
     pub state : State
@@ -106,12 +107,12 @@ next_of (Text text) left (Some left') not_end at = (left', refl, at)
 next_of Long left (Some left') not_end at = (left', refl, at)
 next_of End left (Some left') not_end at = absurd (not_end refl)
 
--- none of those left comes where the stream has ended
+-- none of those left comes if the stream has ended
 last_of : (left : List ℕ) (new : Option (List ℕ)) → IsNextLine LINE_LIMIT End (Some left) new → lines_of LINE_LIMIT left ≡ []
 last_of left None at = absurd at
 last_of left (Some left') at = at.0
 
--- what is told begins with the front, and the rest is told too
+-- what is known begins with the prefix, and the rest is known too
 behind_told : (front left : List ℕ) (behind : Option (List ℕ)) → with_prefix front behind ≡ Some left → (back : List ℕ) × (behind ≡ Some back) × (left ≡ front ++ back)
 behind_told front left None at = absurd (none-some left at)
 behind_told front left (Some back) at = (back, refl, sym (some_is at))
@@ -122,7 +123,7 @@ unread_in front left behind at =
     let told = behind_told front left behind at in
     let long = ap length told.2 in omega (arith, length-append front told.0)
 
--- the script, where more went off its front
+-- the script, if more went off its start
 split_on : (script took left bytes left' : List ℕ) → script ≡ took ++ left → left ≡ bytes ++ left' → script ≡ (took ++ bytes) ++ left'
 split_on script took left bytes left' split cut = split ∙ ap (λ xs. took ++ xs) cut ∙ sym (append_assoc took bytes left')
 
@@ -166,7 +167,7 @@ line_at (Text text) bytes left ended not_end at = at
 line_at Long bytes left ended not_end at = at
 line_at End bytes left ended not_end at = absurd (not_end refl)
 
--- one whole line more went, or the source has ended behind the last
+-- one whole line more went, or the source has ended after the last
 whole_line : (took : List ℕ) (first : State) (written : List ℕ) (state state' : State) (line : Line) (text bytes : List ℕ) (behind : Option (List ℕ)) (ended ended' : Bool)
     → (IsTrue ended ⊎ AreWhole took first written state) → (IsTrue ended → ⊥) → IsLineAt LINE_LIMIT line bytes behind ended' → text ≡ reply_text state.space (reply state line) → state' ≡ next_state state line
     → IsTrue ended' ⊎ AreWhole (took ++ bytes) first (written ++ text) state'
@@ -183,12 +184,12 @@ whole_line took first written state state' line text bytes behind ended ended' (
     ∙ ap (λ st. written ++ (text ++ play_lines st (ended_lines LINE_LIMIT more))) (sym goes)
     ∙ sym (append_assoc written text (play_ended state' more)))
 
--- where the source hadn't ended, whole lines went
+-- if the source hadn't ended, whole lines went
 whole_of : (took : List ℕ) (first : State) (written : List ℕ) (state : State) (ended : Bool) → (IsTrue ended ⊎ AreWhole took first written state) → (IsTrue ended → ⊥) → AreWhole took first written state
 whole_of took first written state ended (inl end) not_ended = absurd (not_ended end)
 whole_of took first written state ended (inr whole) not_ended = whole
 
--- behind whole lines came bytes that no LF ended
+-- after whole lines came bytes that no LF ended
 whole_and_more : (took : List ℕ) (first : State) (written bytes : List ℕ) (state : State) → AreWhole took first written state → HasNoLf bytes → play_ended first (took ++ bytes) ≡ written
 whole_and_more took first written bytes state whole none =
     whole bytes ∙ ap (λ ls. written ++ play_lines state ls) (ended_lines-none LINE_LIMIT bytes none) ∙ append-nil written
@@ -243,7 +244,7 @@ cause_beside ReadFault o counted (fell, rose) = (none_fell_beside o counted fell
 cause_beside WriteFault o counted (fell, rose) = (none_fell_beside o counted fell, rose)
 cause_beside InputLimit o counted (fell, past) = (none_fell_beside o counted fell, past)
 
--- where the words were in the grammar, no fault was counted and the input was within the limit, no other cause is left
+-- if the words were in the grammar, no fault was counted and the input was within the limit, no other cause is left
 pub completed : (status : Status) (o : Outside) → (status ≡ Usage → ⊥) → HasCause status o → (script : List ℕ) → o.input ≡ Some script → length script ≤ 2 ^ 30 → NoneRose o → IsDoneOrNoMemory status
 completed Done o not_usage cause script told within none = tt
 completed Usage o not_usage cause script told within none = absurd (not_usage refl)

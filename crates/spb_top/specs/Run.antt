@@ -14,7 +14,7 @@ use Rattle.spb_top.specs.declared.status.Status.TheVariants.{Done, Usage, NoMemo
 abbrev pub first_state : MemorySetup → State
 first_state setup = empty_in_memory setup.space setup.pivots
 
--- a front of the text was written
+-- a prefix of the text was written
 abbrev pub WritesPrefix : Option (List ℕ) → Option (List ℕ) → List ℕ → Type 0
 WritesPrefix old new text = (n : ℕ) × (new ≡ with_suffix old (take n text))
 
@@ -22,9 +22,9 @@ WritesPrefix old new text = (n : ℕ) × (new ≡ with_suffix old (take n text))
 abbrev pub WritesEnded : State → List ℕ → Option (List ℕ) → Option (List ℕ) → Option (List ℕ) → Type 0
 WritesEnded first script left old new = (took : List ℕ) × (Some script ≡ with_prefix took left) × (new ≡ with_suffix old (play_ended first took))
 
--- what was written of the replies to a script, by the status: all of them on Done, nothing on Usage, and a
--- front of them on every other status. On ReadFault and InputLimit these are the replies to the lines that
--- an LF ends among the bytes taken, or among those within the limit. `left` is what the input has left.
+-- what was written of the replies to a script, by the status: all of them on Done, nothing on Usage, and a prefix of
+-- them on every other status. On ReadFault and InputLimit these are the replies to the lines that an LF ends among the
+-- bytes taken, or among those within the limit. `left` is what the input has left.
 abbrev pub WritesReplies : Status → State → List ℕ → Option (List ℕ) → Option (List ℕ) → Option (List ℕ) → Type 0
 WritesReplies Done first script left old new = new ≡ with_suffix old (play first script)
 WritesReplies Usage first script left old new = new ≡ old
@@ -34,8 +34,7 @@ WritesReplies WriteFault first script left old new = WritesPrefix old new (play 
 WritesReplies InputLimit first script left old new =
     WritesPrefix old new (play first script) × (new ≡ with_suffix old (play_ended first (take (2 ^ 30) script)))
 
--- what is left of an input that tells what it has: a front of it was taken, on Done all of it, and it goes on
--- telling
+-- what is left of a known input: a prefix of it was taken, on Done all of it, and it stays known
 pub record LeavesInput (status : Status) (script : List ℕ) (left : Option (List ℕ)) : Type 0 where
   pub took : List ℕ
   pub front : Some script ≡ with_prefix took left
@@ -48,8 +47,8 @@ pub record Faults : Type 0 where
   pub before : ℕ
   pub now : ℕ
 
--- what a run met outside: the faults of its source, its sink and its disk, and what the source had before the run, where
--- it tells
+-- what a run met outside: the faults of its source, its sink and its disk, and what the source had before the run, if
+-- that is known
 pub record Outside : Type 0 where
   pub source : Faults
   pub sink : Faults
@@ -94,17 +93,17 @@ IsDoneOrNoMemory ReadFault = ⊥
 IsDoneOrNoMemory WriteFault = ⊥
 IsDoneOrNoMemory InputLimit = ⊥
 
--- how a run ends where no line came
+-- how a run ends if no line came
 abbrev pub stopped_by : EdgeError → Status
 stopped_by edge.ReadFault = ReadFault
 stopped_by edge.InputLimit = InputLimit
 stopped_by edge.Memory = NoMemory
 
--- the words are in the grammar exactly where the run doesn't end as Usage
+-- the words are in the grammar exactly if the run doesn't end as Usage
 abbrev pub Asks : Option MemorySetup → Status → Type 0
 Asks asked status = (status ≡ Usage) ↔ (asked ≡ None)
 
--- the words asked for a store in memory, neither the source nor the sink counted a fault, and the input was told and
+-- the words asked for a store in memory, neither the source nor the sink counted a fault, and the input was known and
 -- within the limit: then the work was done, or memory ran out
 abbrev pub Completes : Status → Option MemorySetup → Outside → Type 0
 Completes status asked outside = (setup : MemorySetup) → asked ≡ Some setup → (script : List ℕ) → outside.input ≡ Some script → length script ≤ 2 ^ 30

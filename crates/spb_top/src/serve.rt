@@ -65,7 +65,7 @@ pub(crate) fn serve_lines<T: Turns, M: Metric, S: Source, K: Sink>(
     }
 }
 
-/// Clears the text, and puts the reply to the line there; the session is then as after the line.
+/// Clears the text, and writes the reply to the line there; the session is then as after the line.
 fn take_turn<T: Turns, M: Metric>(
     alloc: Global,
     session: &mut T,
@@ -95,7 +95,7 @@ fn take_turn<T: Turns, M: Metric>(
     }
 }
 
-/// How a run ends where no line came.
+/// How a run ends if no line came.
 fn stopped_by(e: EdgeError) -> Status
     ensures { result ≡ stopped_by e }
 {

@@ -34,12 +34,11 @@ pub fn code(status: &Status) -> u8
     }
 }
 
-/// Puts the line for standard error at the end of `text`, with its LF. There is none for
-/// [`Status::Done`].
+/// Appends the line for standard error to `text`, with its LF. There is none for [`Status::Done`].
 ///
 /// # Errors
 ///
-/// [`Memory`] where the text can't grow.
+/// [`Memory`] if the text can't grow.
 pub fn status_line(status: &Status, text: &mut Bytes) -> Result<(), Memory>
     ensures { OnOk result (text.new ≡ text.old ++ status_text status.now) }
 {

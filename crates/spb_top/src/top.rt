@@ -84,7 +84,7 @@ fn serve_input<M: Metric, S: Source, K: Sink>(
 /// more word says how many pivots are chosen from the samples, 0 to 8; without it there are none. All other
 /// words are [`Status::Usage`]. No call is made on the disk.
 ///
-/// Each line is passed over a few times, and answered at the cost that [`MemSession::turn`] tells.
+/// Each line is passed over a few times, and answered at the cost that [`MemSession::turn`] gives.
 pub fn run<S: Source, K: Sink, D: Disk>(
     alloc: Global,
     words: &[String],
@@ -92,7 +92,7 @@ pub fn run<S: Source, K: Sink, D: Disk>(
     output: &mut K,
     disk: &mut D,
 ) -> Status
-    // It ends as Usage exactly where the words aren't in the grammar.
+    // It ends as Usage exactly if the words aren't in the grammar.
     ensures words { Asks (setup_of (map string_bytes words.now)) result }
 
     // What is written is what scanning all objects gives, however the input is cut into pieces: all of it
@@ -104,7 +104,7 @@ pub fn run<S: Source, K: Sink, D: Disk>(
     ensures usage { result ≡ Status.Usage → (input.new ≡ input.old) × (output.new ≡ output.old) }
     ensures input { (script : List ℕ) → S.left input.old ≡ Some script → LeavesInput result script (S.left input.new) }
 
-    // Each status has its cause, and where none of the causes is there the work is done.
+    // Each status has its cause, and if there is none of the causes the work is done.
     ensures cause { HasCause result (outside_of S.left S.faults K.faults D.faults input.old input.new output.old output.new disk.old disk.new) }
     ensures complete { Completes result (setup_of (map string_bytes words.now))
         (outside_of S.left S.faults K.faults D.faults input.old input.new output.old output.new disk.old disk.new) }

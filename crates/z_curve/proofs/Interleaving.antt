@@ -74,7 +74,7 @@ interleaved_more n b i v h =
     ap (λ t. interleaved n b t) (take_more v i 0 h) ∙ interleaved-append n b (take i v) (get_or v i 0 ∷ [])
     ∙ ap (λ t. interleaved n b (take i v) * 2 + t) (single n b (get_or v i 0))
 
--- a front gives no more than all
+-- a prefix gives no more than all
 pub interleaved-front : (n b i : ℕ) (v : List ℕ) → interleaved n b (take i v) ≤ interleaved n b v
 interleaved-front n b i v =
     let whole : take i v ++ drop i v ≡ v = take-append-drop i v in
@@ -146,7 +146,7 @@ interleaved-le n b (x ∷ xs) (y ∷ ys) some h k =
     mul-le (spread n b x) (2 ^ length xs) (spread n b y) (2 ^ length ys) first (omega arith) in
     omega arith
 
--- of two vectors, the one that is nowhere past the other has no greater key
+-- of two vectors, the one that exceeds the other in no coordinate has no greater key
 pub z_key-le : (n b : ℕ) (v w : List ℕ) → 1 ≤ n → length w ≡ n → IsUpTo v w → All (λ x. x < 2 ^ b) w → z_key b v ≤ z_key b w
 z_key-le n b v w some long up_to below =
     let as_long : length v ≡ n = length-IsUpTo v w up_to ∙ long in

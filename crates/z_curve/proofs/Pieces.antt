@@ -128,7 +128,7 @@ cut_none : (p e d x m : ℕ) → bit_and (bit_or (pieces (p + p) (d + d) zero x)
 unfolding pieces
 cut_none p e d x m = omega (arith, and_le_r (bit_or 0 (0 * 2 ^ e)) 0)
 
--- what stands above a piece of twice the bits is moved and masked by itself
+-- what is above a piece of twice the bits is moved and masked by itself
 cut_above : (p e d a l am lm : ℕ) → d ≡ e + p → p ≤ e → l < 2 ^ (p + p) → lm < 2 ^ (d + d) →
     (x : ℕ) → x ≡ a * 2 ^ (d + d) + l → (m : ℕ) → m ≡ am * 2 ^ (d + d) + lm →
     bit_and (bit_or x (x * 2 ^ e)) m ≡ bit_and (bit_or a (a * 2 ^ e)) am * 2 ^ (d + d) + bit_and (bit_or l (l * 2 ^ e)) lm
@@ -177,7 +177,7 @@ joint_masked y k n am lm a l few wide high low m mask =
     ap (λ t. bit_and y t) mask ∙ ap (λ t. bit_and t (am * 2 ^ n + lm)) (sym whole) ∙ block
     ∙ ap (λ t. bit_and t am * 2 ^ n + bit_and (y % 2 ^ n) lm) high ∙ ap (λ t. bit_and a am * 2 ^ n + t) rest
 
--- what stands above two pieces is moved back and masked by itself
+-- what is above two pieces is moved back and masked by itself
 joint_above : (p f e d b h l am lm : ℕ) → e ≡ p + f → d ≡ e + p → h < 2 ^ p → l < 2 ^ p → lm < 2 ^ (p + p) →
     (x : ℕ) → x ≡ b * 2 ^ (d + d) + (l + 2 ^ d * h) → (m : ℕ) → m ≡ am * 2 ^ (d + d) + lm →
     bit_and (bit_or x (x / 2 ^ e)) m ≡ bit_and (bit_or b (b / 2 ^ e)) am * 2 ^ (d + d) + bit_and (h * 2 ^ p + l) lm
@@ -272,7 +272,7 @@ gathered-mod n (suc w) c k =
     ap (λ t. gathered n t k % 2 ^ suc w) count ∙ ap (λ t. gathered n (suc (w + c)) k % 2 ^ t) (sym level) ∙ split
     ∙ ap (λ t. t * 2 ^ 1 + gathered n (suc (w + c)) k % 2 ^ 1) upper ∙ ap (λ t. gathered n w (k / 2 ^ n) * 2 ^ 1 + t) parts.1 ∙ gathered_turned n w k
 
--- what a mask of bits that stand n places apart leaves is the number gathered from there
+-- what a mask of bits that are n places apart leaves is the number gathered from there
 pub first_mask : (n j k m : ℕ) → 1 ≤ n → bit_and k (pieces 1 n j m) ≡ pieces 1 n j (bit_and (gathered n j k) m)
 first_mask n zero k m some = first_none n k m
 first_mask n (suc j) k m some =
@@ -292,7 +292,7 @@ first_mask n (suc j) k m some =
 
 -- ---- one piece
 
--- nothing has pieces of nothing
+-- the pieces of 0 are 0
 pub pieces-zero : (p d j : ℕ) → pieces p d j 0 ≡ 0
 unfolding pieces
 pieces-zero p d zero = refl

@@ -174,7 +174,7 @@ gather_step n i x shift mask some early small moved masked =
 pub whole_before : (n x : ℕ) → x < 2 ^ 32 → cut_to n 0 x ≡ x
 whole_before n x small = pieces-small 32 (n * 32) 1 x (omega arith) small
 
--- after the last step the bits stand alone
+-- after the last step the bits are alone
 pub bits_before : (n k : ℕ) → 1 ≤ n → bit_and k (mask_of n 5) ≡ cut_to n 5 (gathered n (most_bits n) k)
 bits_before n k some =
     let places : n * 1 ≡ n = omega arith in

@@ -1,4 +1,4 @@
--- Numbers cut into pieces that stand apart.
+-- Numbers cut into pieces that are set apart.
 use Rattle.std.specs.Prelude.{ℕ, zero, suc, ◌+◌, ◌-◌, ◌*◌, ◌/◌, ◌%◌, ◌^◌, min, cond, nat_lt}
 
 -- how many bits of each coordinate go into 64 bits, 32 at most
@@ -18,11 +18,11 @@ spread n b x = pieces 1 n b x
 abbrev pub cut_to : ℕ → ℕ → ℕ → ℕ
 cut_to n i x = pieces (2 ^ (5 - i)) (n * 2 ^ (5 - i)) (2 ^ i) x
 
--- how far step i, which leaves pieces of 2 ^ (4 - i) bits, moves the upper half of each; nowhere
--- where a coordinate has no more bits than that
+-- how far step i, which leaves pieces of 2 ^ (4 - i) bits, moves the upper half of each; not at all
+-- if a coordinate has no more bits than that
 abbrev pub shift_of : ℕ → ℕ → ℕ
 shift_of n i = cond (nat_lt (2 ^ (4 - i)) (most_bits n)) ((n - 1) * 2 ^ (4 - i)) 0
 
--- where bits stand before step i
+-- where the bits are before step i
 abbrev pub mask_of : ℕ → ℕ → ℕ
 mask_of n i = cut_to n i (2 ^ most_bits n - 1)

@@ -19,7 +19,7 @@ z_key (suc b) v = 2 ^ length v * z_key b (halves v) + low_bits v
 
 -- ---- the cell of a key
 
--- the number of b bits that stand n places apart in the key, from the lowest bit on
+-- the number of b bits that are n places apart in the key, from the lowest bit on
 unfoldable pub gathered : ℕ → ℕ → ℕ → ℕ
 gathered n zero k = 0
 gathered n (suc b) k = 2 * gathered n b (k / 2 ^ n) + k % 2

@@ -74,8 +74,8 @@ impl Curve for ZCurve {
 }
 
 impl ZCurve {
-    /// The keys of two cells, the first of which is nowhere past the second: each vector between
-    /// them has its key between these two. It costs two calls of `key`.
+    /// The keys of two cells, the first of which exceeds the second in no coordinate: each vector
+    /// between them has its key between these two. It costs two calls of `key`.
     pub fn corner_keys(&self, low: &Vect, high: &Vect) -> (u64, u64)
         requires low_cell { IsCell self.now.n self.now.b low.now }
         requires high_cell { IsCell self.now.n self.now.b high.now }
@@ -87,8 +87,8 @@ impl ZCurve {
         (self.key(low), self.key(high))
     }
 
-    /// The law of the order, as a contract: of two cells, the one that is nowhere past the other has
-    /// no greater key. The call does nothing.
+    /// The law of the order, as a contract: of two cells, the one that exceeds the other in no coordinate has no
+    /// greater key. The call does nothing.
     pub fn keeps_order(&self)
         ensures { (v w : List ℕ) → IsCell self.now.n self.now.b w → IsUpTo v w → z_key self.now.b v ≤ z_key self.now.b w }
     {}

@@ -3,12 +3,12 @@ ghost use Rattle.std.specs.Prelude.{◌≡◌, ℕ, ◌^◌, ◌<◌, ◌≤◌,
 ghost use Rattle.z_curve.specs.ZOrder.{gathered};
 ghost use Rattle.z_curve.specs.Spacing.{most_bits, spread, shift_of, mask_of};
 
-/// How the bits of a number are set so many places apart, in five steps: pieces of 32 bits are cut
-/// into pieces of 16, 8, 4, 2 and 1.
+/// How the bits of a number are set this many places apart, in five steps: pieces of 32 bits are
+/// cut into pieces of 16, 8, 4, 2 and 1.
 struct Spacing {
     /// How far the upper half of each piece is moved. A step that finds one piece moves nothing.
     shifts: [u32; 5],
-    /// Where bits stand before the first step, and after each.
+    /// Where the bits are before the first step, and after each.
     masks: [u64; 6],
 }
 
@@ -112,7 +112,7 @@ const SPACINGS: [Spacing; 8] = [
     },
 ];
 
-// The spacing for so many coordinates.
+// The spacing for this many coordinates.
 #[tactic(auto, unfolding(crate::specs::Spacing::pieces))]
 fn spacing_of(coordinates: usize) -> &'static Spacing
     requires low { 1 ≤ coordinates }
@@ -140,7 +140,7 @@ pub(crate) fn spread<const N: usize>(number: u32) -> u64
     spread
 }
 
-/// The number whose bits stand `N` places apart in the key, from the lowest on. It takes at most 5
+/// The number whose bits are `N` places apart in the key, from the lowest on. It takes at most 5
 /// shifts and 6 masks.
 pub(crate) fn gather<const N: usize>(key: u64) -> u32
     requires low { 1 ≤ N }

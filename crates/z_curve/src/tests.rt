@@ -2,7 +2,7 @@
 use super::*;
 use curve_laws::{Curve, Vect, obeys_laws};
 
-// The key of a vector where it is a cell, and where the key's cell is the vector.
+// The key of a vector, if it is a cell and the key's cell is the vector.
 fn key_of<C: Curve>(curve: &C, v: &[u32]) -> Option<u64> {
     obeys_laws(curve);
     if v.len() > 8 {
@@ -20,7 +20,7 @@ fn key_of<C: Curve>(curve: &C, v: &[u32]) -> Option<u64> {
     }
 }
 
-// The key of the cell of a number where it is a key.
+// The key of the cell of a number if it is a key.
 fn key_back<C: Curve>(curve: &C, key: u64) -> Option<u64> {
     if !curve.has_key(key) {
         return None;

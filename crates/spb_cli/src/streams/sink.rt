@@ -9,10 +9,10 @@ use super::MOST_TRIES;
 use spb_edge::{Put, Sink, WriteFault};
 use std::io::{ErrorKind, Write};
 
-/// A writer of std as a sink. It tells nothing of the bytes taken.
+/// A writer of std as a sink. Nothing is known of the bytes taken.
 ///
-/// What was taken of a piece is written and flushed, so that it is seen before the next is made. Only
-/// where the flush failed may a front of the piece have been written that wasn't taken.
+/// What was taken of a piece is written and flushed, so that it is seen before the next is made. Only if the flush
+/// failed may a prefix of the piece have been written that wasn't taken.
 #[derive(Drop)]
 pub struct StdSink<W: Write> {
     writer: W,
@@ -41,7 +41,7 @@ impl<W: Write> Sink for StdSink<W> {
         ensures within { IsCountWithin result (length piece.now) }
         ensures takes { AppendsTaken result piece.now None None }
         ensures fault { CountsFault result self.old.faults self.new.faults }
-        // What the writer holds, where its bytes are known.
+        // What the writer holds, if its bytes are known.
         ensures writes { WritesTo result (W.contents self.old.writer) (W.contents self.new.writer) piece.now }
         // Only a failure is counted.
         ensures counts { CountsPut result self.old.faults self.new.faults }
@@ -56,7 +56,7 @@ impl<W: Write> Sink for StdSink<W> {
     }
 }
 
-/// Writes a front of `bytes`, which isn't empty, by one write, made again where a signal interrupts
+/// Writes a prefix of `bytes`, which isn't empty, by one write, made again if a signal interrupts
 /// it. One that takes no byte has failed.
 fn write_some<W: Write>(writer: &mut W, bytes: &[u8]) -> Result<usize, WriteFault>
     requires { 0 < length bytes.now }
@@ -78,7 +78,7 @@ fn write_some<W: Write>(writer: &mut W, bytes: &[u8]) -> Result<usize, WriteFaul
     Err(WriteFault)
 }
 
-/// Makes what was written seen, by a flush that is made again where a signal interrupts it.
+/// Makes what was written seen, by a flush that is made again if a signal interrupts it.
 fn flush<W: Write>(writer: &mut W) -> Result<(), WriteFault>
     ensures bytes { Keeps (W.contents writer.old) (W.contents writer.new) }
 {
@@ -95,7 +95,7 @@ fn flush<W: Write>(writer: &mut W) -> Result<(), WriteFault>
     Err(WriteFault)
 }
 
-/// Writes a front of `bytes`, which isn't empty, and makes it seen.
+/// Writes a prefix of `bytes`, which isn't empty, and makes it seen.
 fn write_and_flush<W: Write>(writer: &mut W, bytes: &[u8]) -> Result<usize, WriteFault>
     requires { 0 < length bytes.now }
     ensures some { IfOk result (λ count. 0 < count) }

@@ -11,7 +11,7 @@ use spb_edge::{Source, Take};
 use std::io;
 use std::io::{ErrorKind, Read};
 
-/// A reader of std as a source. It tells nothing of the bytes to come.
+/// A reader of std as a source. Nothing is known of the bytes to come.
 #[derive(Drop)]
 pub struct StdSource<R: Read> {
     reader: R,
@@ -40,7 +40,7 @@ impl<R: Read> Source for StdSource<R> {
         ensures within { IsCountWithin result (length into.old) }
         ensures gives { GivesBytes result into.new None None }
         ensures fault { CountsFault result self.old.faults self.new.faults }
-        // What the reader gave, where its bytes are known.
+        // What the reader gave, if its bytes are known.
         ensures reads { ReadsFrom result (R.remaining self.old.reader) (R.remaining self.new.reader) into.new }
         // Only a failure is counted.
         ensures counts { CountsTake result self.old.faults self.new.faults }
@@ -56,7 +56,7 @@ impl<R: Read> Source for StdSource<R> {
     }
 }
 
-/// One read, made again where a signal interrupts it.
+/// One read, made again if a signal interrupts it.
 fn read_some<R: Read>(reader: &mut R, into: &mut [u8]) -> io::Result<usize>
     ensures within { ReadsAtMost result into.new }
     ensures bytes { ReadConsumes (R.remaining reader.old) (R.remaining reader.new) result into.new }

@@ -12,7 +12,7 @@ no_digit word i other inside digits =
     let d : IsInRange 48 57 (get_or word i 0) = digit_at word i digits inside in
     absurd (let low = d.0 in let high = d.1 in grind arith)
 
--- ten times the front is past 64 bits
+-- ten times the prefix exceeds 64 bits
 too_great : (word : List ℕ) (i value : ℕ) → i < length word → IsInRange 48 57 (get_or word i 0) → value ≡ digits_value 10 (take i word) → 2 ^ 64 + 48 ≤ value * 10 + get_or word i 0 → 2 ^ 64 ≤ digits_value 10 word
 too_great word i value inside d e great =
     let more : digits_value 10 (take (i + 1) word) + 48 ≡ digits_value 10 (take i word) * 10 + get_or word i 0 = value-more word i inside d in

@@ -4,7 +4,7 @@ use Rattle.spb_defs.specs.Choice.{sample_at}
 use Rattle.pivot_choice.specs.Worths.{is_unchosen, updated_worth, unchosen_among_first}
 use Rattle.pivot_choice.proofs.choice.add_distances.Given as goal
 
--- the places so far have their new worths, and so many were measured; the others are as they were
+-- the places so far have their new worths, and this many were measured; the others are as they were
 abbrev pub invariant-loop-place : goal.invariant-loop-place
 invariant-loop-place g l =
     let kind = g.R.Ruler.kind l.fn.ruler in

@@ -5,8 +5,8 @@ use Rattle.redo_journal.specs.Redo.{DiffersWithin}
 use Rattle.redo_journal.specs.Change.{AreInPlace}
 use Rattle.redo_journal.proofs.moves.write_all_home.Given as goal
 
--- the first `place` pages are home; the image, and each that a crash may leave or may have left, differs
--- at most within the pages of the change
+-- the first `place` pages are home; the image, and each crash state now or since, differs at most within the pages of
+-- the change
 abbrev pub invariant-loop-place : goal.invariant-loop-place
 invariant-loop-place g l =
     (g.D.Disk.size_of l.disk ≡ 512 * l.staged.total)

@@ -4,7 +4,8 @@ use Rattle.spb_defs.specs.State.{State}
 use Rattle.spb_top.proofs.Running.{Serving, GoesOn}
 use Rattle.spb_top.proofs.serve.serve_lines.Given as goal
 
--- what was written so far: what that is whatever state there is, and what it is to each state from which the session began
+-- what was written so far: what that is whatever state there is, and what it is to each state from which the session
+-- began
 abbrev pub invariant-loop-line : goal.invariant-loop-line
 invariant-loop-line g l =
     let turns = g.T.Turns in
