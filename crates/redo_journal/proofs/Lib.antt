@@ -7,4 +7,3 @@ pub mod Settle
 pub mod Runs
 pub mod Load
 pub mod Staging
-pub mod Worked

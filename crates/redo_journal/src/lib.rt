@@ -17,6 +17,3 @@ mod staged;
 
 pub use errors::{DiskFault, Field, GrowError, RecoverError, StageError};
 pub use journal::{Journal, home_is_redone, home_survives, staging_joins_one, staging_lays_one};
-
-#[cfg(test)]
-mod tests;

@@ -2,8 +2,8 @@ use Rattle.std.proofs.Common.{◌≡◌, ◌∷◌, [], ap, ◌∙◌, rules}
 use Rattle.spb_edge.specs.Crash.{CrashesLeaveOnly}
 use Rattle.redo_journal.specs.Journal.{disk_of, total_of, staged_of}
 use Rattle.redo_journal.specs.Change.{with_page, IsBeforeOrAfter}
-use Rattle.redo_journal.proofs.Worked.{from_start}
-use Rattle.redo_journal.proofs.tests.commit_page.Goals as goal
+use Rattle.journal_tests.proofs.Worked.{from_start}
+use Rattle.journal_tests.proofs.commits.commit_page.Goals as goal
 
 pub returns : goal.returns
 returns g c = record {

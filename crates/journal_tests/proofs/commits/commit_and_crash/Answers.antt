@@ -1,8 +1,8 @@
 use Rattle.std.proofs.Common.{◌≡◌, inl, List, ℕ, refl, sym, ◌∙◌, ap, subst}
 use Rattle.std.proofs.lemmas.Result.{IfOk-weaker}
 use Rattle.redo_journal.specs.Redo.{RecoversTo, has_open_gate}
-use Rattle.redo_journal.proofs.Worked.{nothing_pending}
-use Rattle.redo_journal.proofs.tests.commit_and_crash.Goals as goal
+use Rattle.journal_tests.proofs.Worked.{nothing_pending}
+use Rattle.journal_tests.proofs.commits.commit_and_crash.Goals as goal
 
 pub returns : goal.returns
 returns c = record {
