@@ -23,7 +23,8 @@ fn a_call_that_fails_is_a_fault(rt: HostRuntime) -> Result<(), Fail> {
 }
 
 /// What a crash leaves of a change with a fault at the first of these calls, whose file is then opened
-/// again on the same disk and recovered, with faults at the others.
+/// again on the same disk and recovered, with faults at the others. Mixed if the recovery answers Ok, and
+/// the file stood for something else before it.
 fn home_on_the_same_disk(
     alloc: Global,
     old: &[u8],
@@ -34,9 +35,14 @@ fn home_on_the_same_disk(
     if change(alloc, &mut disk)? {
         return Err(Fail::new("no fault came"));
     }
-    let _ = recover(alloc, &mut disk)?;
+    let before = home_after_recovery(alloc, disk.image())?;
+    let recovered = recover(alloc, &mut disk)?.is_ok();
     let left = disk.after_crash(alloc, choice)?;
-    home_after_recovery(alloc, left.as_slice())
+    let after = home_after_recovery(alloc, left.as_slice())?;
+    if recovered && after != before {
+        return Ok(Home::Mixed);
+    }
+    Ok(after)
 }
 
 #[test]
