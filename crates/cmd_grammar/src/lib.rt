@@ -9,10 +9,8 @@ mod lines;
 mod replies;
 #[cfg(test)]
 mod tests;
-mod words;
 
 pub use laws::one_line;
 pub use lines::{LineError, read_command};
 pub use replies::write_reply;
-pub use spb_defs::{Command, MemorySetup, Reply, What};
-pub use words::read_words;
+pub use spb_defs::{Command, Reply, What};

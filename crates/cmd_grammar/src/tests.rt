@@ -152,57 +152,6 @@ fn answers_with_pairs(rt: HostRuntime) -> Result<(), Fail> {
 }
 
 #[test]
-fn words_of_the_program(rt: HostRuntime) -> Result<(), Fail> {
-    let points = Space::L1 { dim: 2, most: 255 };
-    let wide = Space::LInf {
-        dim: 2,
-        most: 4294967295,
-    };
-    let sets = Space::Sets {
-        universe: 100,
-        most: 5,
-    };
-    let codes = Space::Hamming { len: 120 };
-    for (words, want) in [
-        ("mem l1 2 255", Some((points, 0))),
-        ("mem l1 2 255 0", Some((points, 0))),
-        ("mem l1 2 255 2", Some((points, 2))),
-        ("mem l1 2 255 8", Some((points, 8))),
-        ("mem l1 2 255 9", None),
-        ("mem l1 2 255 02", None),
-        ("mem l1 2 255 -1", None),
-        ("mem l1 2 255 2 2", None),
-        ("", None),
-        ("mem l1 31 255", None),
-        ("mem l1 02 255", None),
-        ("mem l1 2", None),
-        ("mem l2 2 255", None),
-        ("mem l1 2 0", None),
-        ("mem l1 2 4294967295", None),
-        ("mem linf 2 4294967295", Some((wide, 0))),
-        ("mem linf 31 255", None),
-        ("mem hamming 120", Some((codes, 0))),
-        ("mem hamming 120 3", Some((codes, 3))),
-        ("mem hamming 121", None),
-        ("mem hamming 3 9", None),
-        ("mem hamming 3 0 0", None),
-        ("mem sets 100 5", Some((sets, 0))),
-        ("mem sets 100 5 1", Some((sets, 1))),
-        ("mem sets 100 31", None),
-        ("mem sets 100", None),
-        ("mem", None),
-    ] {
-        let mut list = Vec::new(rt.alloc());
-        for word in words.split_whitespace() {
-            list.push(String::from_str(rt.alloc(), word)?)?;
-        }
-        let want = want.map(|(space, pivots)| MemorySetup { space, pivots });
-        assert!(rt; read_words(&list) == want, "{words}");
-    }
-    Ok(())
-}
-
-#[test]
 fn errors_in_words(rt: HostRuntime) -> Result<(), Fail> {
     for (e, text) in [
         (LineError::Bad(What::Id), "bad line"),

@@ -1,12 +1,13 @@
-//! Words that ask for no session, and the number and the line of each status.
-use crate::plays::play_over;
+//! Words that ask for no session, the files that words name, and the number and the line of each status.
+use crate::plays::{owned, play_over};
+use page_laws::Rule;
 use spb_edge::{Bytes, MemSink, MemSource, Memory};
-use spb_top::{Status, code, status_line};
+use spb_top::{FileUse, Status, code, file_of, status_line};
 use std::alloc::Global;
 use std::test::Fail;
 
 /// Words that ask for no session.
-const OTHER_WORDS: [&[&str]; 18] = [
+const OTHER_WORDS: [&[&str]; 22] = [
     &[],
     &["mem"],
     &["mem", "l1"],
@@ -24,6 +25,10 @@ const OTHER_WORDS: [&[&str]; 18] = [
     &["mem", "l1", "2", "0255"],
     &["mem", "l1", "2"],
     &["mem", "l1", "2", "255", "9"],
+    &["mem", "l1", "2", "255", "2", "2"],
+    &["mem", "l1", "2", "255", "02"],
+    &["--help"],
+    &["help"],
     &["run", "a.spb"],
 ];
 
@@ -51,14 +56,88 @@ fn other_words_are_usage(rt: HostRuntime) -> Result<(), Fail> {
     Ok(())
 }
 
+/// Words, and the file that they name: whether it is a new one, and its name.
+const FILES: [(&[&str], Option<(bool, &str)>); 25] = [
+    (&["make", "a", "z", "1", "1", "l1", "2", "255"], Some((true, "a"))),
+    (&["make", "a", "hilbert", "8", "65536", "linf", "2", "255"], Some((true, "a"))),
+    (&["make", "a", "z", "2", "100", "hamming", "120"], Some((true, "a"))),
+    (&["make", "a", "z", "2", "100", "sets", "100", "5"], Some((true, "a"))),
+    (&["make", "a", "z", "0", "100", "l1", "2", "255"], None),
+    (&["make", "a", "z", "9", "100", "l1", "2", "255"], None),
+    (&["make", "a", "z", "2", "0", "l1", "2", "255"], None),
+    (&["make", "a", "z", "2", "65537", "l1", "2", "255"], None),
+    (&["make", "a", "Z", "2", "100", "l1", "2", "255"], None),
+    (&["make", "a", "z", "2", "100", "l1", "2", "255", "2"], None),
+    (&["make", "a", "z", "2", "100", "l1", "2"], None),
+    (&["make", "", "z", "2", "100", "l1", "2", "255"], None),
+    (&["run", "a.spb"], Some((false, "a.spb"))),
+    (&["run", "help"], Some((false, "help"))),
+    (&["run", "--help"], None),
+    (&["run"], None),
+    (&["run", "a", "b"], None),
+    (&["check", "mem"], Some((false, "mem"))),
+    (&["check", "-"], None),
+    (&["trial", "t", "18446744073709551615", "65536"], Some((true, "t"))),
+    (&["trial", "t", "18446744073709551616", "1"], None),
+    (&["trial", "t", "0", "0"], None),
+    (&["trial", "t", "0", "65537"], None),
+    (&["help"], None),
+    (&["mem", "l1", "2", "255"], None),
+];
+
+/// Whether the words name this file.
+fn names_file(alloc: Global, texts: &[&str], want: Option<(bool, &str)>) -> Result<bool, Fail> {
+    let words = owned(alloc, texts)?;
+    let named = match file_of(alloc, words.as_slice())? {
+        FileUse::None => want.is_none(),
+        FileUse::Old(name) => is_file(want, false, name.as_slice()),
+        FileUse::New(name) => is_file(want, true, name.as_slice()),
+    };
+    Ok(named)
+}
+
+/// Whether a file was wanted, and is this one.
+fn is_file(want: Option<(bool, &str)>, is_new: bool, name: &[u8]) -> bool {
+    match want {
+        Some((new, text)) => new == is_new && text.as_bytes() == name,
+        None => false,
+    }
+}
+
+#[test]
+fn words_name_their_files(rt: HostRuntime) -> Result<(), Fail> {
+    for (texts, want) in FILES {
+        assert!(rt; names_file(rt.alloc(), texts, want)?);
+    }
+    Ok(())
+}
+
 /// Each status with its number and its line.
-const STATUSES: [(Status, u8, &str); 6] = [
+const STATUSES: [(Status, u8, &str); 13] = [
     (Status::Done, 0, ""),
     (Status::Usage, 2, "spb: usage\n"),
     (Status::NoMemory, 3, "spb: no memory\n"),
     (Status::ReadFault, 4, "spb: read fault\n"),
     (Status::WriteFault, 5, "spb: write fault\n"),
+    (Status::DiskFault, 6, "spb: disk fault\n"),
+    (Status::NotStore, 7, "spb: not a store\n"),
+    (
+        Status::Damaged {
+            page: 85,
+            rule: Rule::Slot,
+        },
+        8,
+        "spb: damaged page 85 rule slot\n",
+    ),
     (Status::InputLimit, 9, "spb: input limit\n"),
+    (Status::TooWide, 10, "spb: too wide\n"),
+    (Status::NoSample, 11, "spb: no sample\n"),
+    (
+        Status::BadSample { line: 4097 },
+        12,
+        "spb: bad sample line 4097\n",
+    ),
+    (Status::NotEmpty, 13, "spb: not empty\n"),
 ];
 
 /// Whether the status has the number and the line.

@@ -138,7 +138,7 @@ two-read make m n few small h =
     ap (option_and_then (λ m. option_and_then (λ n. checked_space (make m n)) (parameter_in (decimal n)))) (parameter-read m few)
     ∙ ap (option_and_then (λ n. checked_space (make m n))) (parameter-read n small) ∙ checked_space-itself (make m n) h
 
-factor : (m n : ℕ) → 1 ≤ m → m * n ≤ 4294967295 → n ≤ 4294967295
+pub factor : (m n : ℕ) → 1 ≤ m → m * n ≤ 4294967295 → n ≤ 4294967295
 factor m n some product = let more : n ≤ n * m = le-mul_of_pos_right n some in let same : n * m ≡ m * n = mul_comm n m in omega (arith, more, same, product)
 
 space-read : (s : Space) → IsTrue (fits s) → space_in (kind_of s) (parameters_of s) ≡ Some s

@@ -10,6 +10,8 @@ use Rattle.spb_defs.specs.declared.CurveKind.TheVariants.{Z, Hilbert}
 use Rattle.spb_defs.specs.declared.MemorySetup.{MemorySetup}
 use Rattle.spb_defs.specs.declared.Asked.{Asked}
 use Rattle.spb_defs.specs.declared.Asked.TheVariants.{Mem, Make, Run, Check, Trial}
+use Rattle.spb_defs.specs.declared.FileUse.{FileUse}
+use Rattle.spb_defs.specs.declared.FileUse.TheVariants as file
 use Rattle.spb_defs.specs.declared.TheConstants.{PIVOT_LIMIT, MEMORY_CAP}
 use Rattle.spb_defs.specs.Numbers.{at_least, number_of, number_within}
 
@@ -121,6 +123,22 @@ memory_asked None = None
 -- the store in memory that the words ask for
 abbrev pub setup_of : List (List ℕ) → Option MemorySetup
 setup_of words = memory_asked (asked_of words)
+
+-- ---- the file that the words name
+
+-- how a file is used, by what is asked for
+abbrev pub file_used : Option Asked → List ℕ → FileUse
+file_used (Some (Mem setup)) name = file.None
+file_used (Some (Make curve pivots cap space)) name = file.New name
+file_used (Some Run) name = file.Old name
+file_used (Some Check) name = file.Old name
+file_used (Some (Trial seed count)) name = file.New name
+file_used None name = file.None
+
+-- how the words use a file: its name is the second word
+abbrev pub file_use_of : List (List ℕ) → FileUse
+file_use_of (name ∷ file ∷ words) = file_used (asked_of (name ∷ file ∷ words)) file
+file_use_of _ = file.None
 
 -- ---- the words of what is asked for
 

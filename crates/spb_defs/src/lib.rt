@@ -14,7 +14,8 @@ pub use laws::{
 };
 use metrics_builtin::Space;
 pub use rows::{
-    worked_files, worked_kinds, worked_pivots, worked_rows, worked_samples, worked_words,
+    worked_file_uses, worked_files, worked_kinds, worked_pivots, worked_rows, worked_samples,
+    worked_words,
 };
 use spb_edge::Bytes;
 
@@ -72,6 +73,17 @@ pub enum Asked {
         seed: u64,
         count: u32,
     },
+}
+
+/// The file on which the words of the program work, and whether it is there before.
+#[derive(Debug, Drop)]
+pub enum FileUse {
+    /// The words need no file, or aren't in the grammar.
+    None,
+    /// The store in the file of this name is opened.
+    Old(Bytes),
+    /// A store is made in the file of this name.
+    New(Bytes),
 }
 
 /// A line that is a command. A collection `c` or `d` is 0 to 3.

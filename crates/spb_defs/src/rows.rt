@@ -4,7 +4,8 @@ ghost use Rattle.std.specs.Prelude.{◌≡◌, ℕ, [], ◌∷◌, ◌++◌, Som
 ghost use Rattle.spb_defs.specs.Play.{play};
 ghost use Rattle.metrics_builtin.specs.declared.Space.TheVariants.{L1, LInf, Hamming, Sets};
 ghost use Rattle.spb_defs.specs.declared.Asked.TheVariants.{Mem, Make, Run, Check, Trial};
-ghost use Rattle.spb_defs.specs.Words.{asked_of};
+ghost use Rattle.spb_defs.specs.Words.{asked_of, file_use_of};
+ghost use Rattle.spb_defs.specs.declared.FileUse.{FileUse};
 ghost use Rattle.spb_defs.specs.declared.CurveKind.TheVariants.{Z, Hilbert};
 ghost use Rattle.spb_defs.specs.State.{empty_in_memory};
 ghost use Rattle.spb_defs.specs.Scripts.{IsAnswered, AreAnswered, AreAnsweredWith, ClosesSampling, three_samples, thrice_ok, with_lf, plane, plane_in_file};
@@ -148,4 +149,17 @@ pub fn worked_words()
     ensures none { asked_of (codes "trial" ∷ codes "t" ∷ codes "0" ∷ codes "0" ∷ []) ≡ None }
     ensures help { asked_of (codes "--help" ∷ []) ≡ None }
     ensures wordless { asked_of [] ≡ None }
+{}
+
+/// Words of the program, and the files on which they work: the definitions compute it. The call does nothing.
+pub fn worked_file_uses()
+    ensures mem { file_use_of (codes "mem" ∷ codes "l1" ∷ codes "2" ∷ codes "255" ∷ []) ≡ FileUse.None }
+    ensures make { file_use_of (codes "make" ∷ codes "a.spb" ∷ codes "z" ∷ codes "2" ∷ codes "100" ∷ codes "l1" ∷ codes "2" ∷ codes "255" ∷ []) ≡ FileUse.New (codes "a.spb") }
+    ensures run { file_use_of (codes "run" ∷ codes "a.spb" ∷ []) ≡ FileUse.Old (codes "a.spb") }
+    ensures check { file_use_of (codes "check" ∷ codes "a.spb" ∷ []) ≡ FileUse.Old (codes "a.spb") }
+    ensures trial { file_use_of (codes "trial" ∷ codes "t" ∷ codes "7" ∷ codes "300" ∷ []) ≡ FileUse.New (codes "t") }
+    ensures dash { file_use_of (codes "run" ∷ codes "-a" ∷ []) ≡ FileUse.None }
+    ensures no_room { file_use_of (codes "make" ∷ codes "a.spb" ∷ codes "z" ∷ codes "2" ∷ codes "0" ∷ codes "l1" ∷ codes "2" ∷ codes "255" ∷ []) ≡ FileUse.None }
+    ensures nameless { file_use_of (codes "run" ∷ []) ≡ FileUse.None }
+    ensures wordless { file_use_of [] ≡ FileUse.None }
 {}

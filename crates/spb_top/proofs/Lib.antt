@@ -1,1 +1,4 @@
+pub mod PlainNumbers
+pub mod PlainWords
+pub mod Reading
 pub mod Running

@@ -23,7 +23,7 @@ use Rattle.spb_defs.specs.ReplyText.{reply_text}
 use Rattle.spb_defs.specs.Play.{play_lines, play, play_ended}
 use Rattle.spb_edge.specs.Fault.{HasRisen}
 use Rattle.spb_top.specs.declared.status.Status.{Status}
-use Rattle.spb_top.specs.declared.status.Status.TheVariants.{Done, Usage, NoMemory, ReadFault, WriteFault, InputLimit}
+use Rattle.spb_top.specs.declared.status.Status.TheVariants.{Done, Usage, NoMemory, ReadFault, WriteFault, DiskFault, NotStore, Damaged, InputLimit, TooWide, NoSample, BadSample, NotEmpty}
 use Rattle.spb_top.specs.Run.{WritesPrefix, WritesReplies, LeavesInput, Outside, NoneFell, NoneRose, HasCause, IsDoneOrNoMemory, outside_of, stopped_by}
 use Rattle.spb_top.specs.Turns.{Leads, Leads-nowhere, Leads-next_state}
 
@@ -242,7 +242,14 @@ cause_beside Usage o counted fell = none_fell_beside o counted fell
 cause_beside NoMemory o counted fell = none_fell_beside o counted fell
 cause_beside ReadFault o counted (fell, rose) = (none_fell_beside o counted fell, rose)
 cause_beside WriteFault o counted (fell, rose) = (none_fell_beside o counted fell, rose)
+cause_beside DiskFault o counted cause = absurd cause
+cause_beside NotStore o counted cause = absurd cause
+cause_beside (Damaged page rule) o counted cause = absurd cause
 cause_beside InputLimit o counted (fell, past) = (none_fell_beside o counted fell, past)
+cause_beside TooWide o counted cause = absurd cause
+cause_beside NoSample o counted cause = absurd cause
+cause_beside (BadSample line) o counted cause = absurd cause
+cause_beside NotEmpty o counted cause = absurd cause
 
 -- if the words were in the grammar, no fault was counted and the input was within the limit, no other cause is left
 pub completed : (status : Status) (o : Outside) → (status ≡ Usage → ⊥) → HasCause status o → (script : List ℕ) → o.input ≡ Some script → length script ≤ 2 ^ 30 → NoneRose o → IsDoneOrNoMemory status
@@ -251,6 +258,13 @@ completed Usage o not_usage cause script told within none = absurd (not_usage re
 completed NoMemory o not_usage cause script told within none = tt
 completed ReadFault o not_usage (fell, rose) script told within none = absurd (none.source rose)
 completed WriteFault o not_usage (fell, rose) script told within none = absurd (none.sink rose)
+completed DiskFault o not_usage cause script told within none = absurd cause
+completed NotStore o not_usage cause script told within none = absurd cause
+completed (Damaged page rule) o not_usage cause script told within none = absurd cause
+completed TooWide o not_usage cause script told within none = absurd cause
+completed NoSample o not_usage cause script told within none = absurd cause
+completed (BadSample line) o not_usage cause script told within none = absurd cause
+completed NotEmpty o not_usage cause script told within none = absurd cause
 completed InputLimit o not_usage (fell, past) script told within none =
     let more : 2 ^ 30 < length script = subst (λ t. IfSome t (λ bytes. 2 ^ 30 < length bytes)) told past in absurd (omega (arith, more, within))
 

@@ -5,6 +5,9 @@ mod serve;
 mod status;
 mod top;
 mod turns;
+mod words;
 
 pub use status::{Status, code, status_line};
+pub use spb_defs::FileUse;
 pub use top::run;
+pub use words::file_of;

@@ -1,5 +1,5 @@
 //! The top call.
-ghost use Rattle.std.specs.Prelude.{◌≡◌, ◌≢◌, ◌≤◌, ℕ, List, Some, map, IsTrue};
+ghost use Rattle.std.specs.Prelude.{◌≡◌, ◌≢◌, ◌≤◌, ℕ, List, Some, None, map, IsTrue};
 ghost use Rattle.std.specs.String.{string_bytes};
 ghost use Rattle.spb_defs.specs.MetricOf.{IsMetricOf};
 ghost use Rattle.spb_defs.specs.Words.{setup_of};
@@ -8,11 +8,11 @@ ghost use Rattle.spb_top.specs.Run.{first_state, Asks, WritesReplies, LeavesInpu
 
 use crate::serve::serve_lines;
 use crate::status::Status;
-use cmd_grammar::read_words;
+use crate::words::read_words;
 use metric_laws::Metric;
 use metrics_builtin::{Hamming, L1, LInf, SetDiff, Space};
 use session::MemSession;
-use spb_defs::MemorySetup;
+use spb_defs::{Asked, MemorySetup};
 use spb_edge::{Disk, LineReader, Sink, Source};
 use std::alloc::Global;
 
@@ -32,13 +32,21 @@ fn dispatch_on_space<S: Source, K: Sink>(
     ensures cause { (counted : ℕ) → HasCause result (outside_of S.left S.faults K.faults (λ (faults : ℕ). faults) input.old input.new output.old output.new counted counted) }
     ensures no_usage { result ≢ Status.Usage }
 {
-    match setup.space {
-        Space::L1 { dim, most } => serve_input(alloc, setup, L1 { dim, most }, input, output),
-        Space::LInf { dim, most } => serve_input(alloc, setup, LInf { dim, most }, input, output),
-        Space::Hamming { len } => serve_input(alloc, setup, Hamming { len }, input, output),
-        Space::Sets { universe, most } => {
-            serve_input(alloc, setup, SetDiff { universe, most }, input, output)
-        }
+    // an arm for each kind of space, with the metric that has its numbers
+    macro_rules! by_metric {
+        ($($space:ident => $metric:ident { $($number:ident),* })*) => {
+            match setup.space {
+                $(Space::$space { $($number),* } => {
+                    serve_input(alloc, setup, $metric { $($number),* }, input, output)
+                })*
+            }
+        };
+    }
+    by_metric! {
+        L1 => L1 { dim, most }
+        LInf => LInf { dim, most }
+        Hamming => Hamming { len }
+        Sets => SetDiff { universe, most }
     }
 }
 
@@ -82,7 +90,8 @@ fn serve_input<M: Metric, S: Source, K: Sink>(
 /// and `mem sets UNIVERSE MOST` answer a script in memory: the lines of `input` are read to its end, from
 /// an empty store of that space, and the reply to each is put into `output` before the next is read. One
 /// more word says how many pivots are chosen from the samples, 0 to 8; without it there are none. All other
-/// words are [`Status::Usage`]. No call is made on the disk.
+/// words are [`Status::Usage`], those that ask for a store in a file among them: none is served yet. No call
+/// is made on the disk.
 ///
 /// Each line is passed over a few times, and answered at the cost that [`MemSession::turn`] gives.
 pub fn run<S: Source, K: Sink, D: Disk>(
@@ -92,7 +101,7 @@ pub fn run<S: Source, K: Sink, D: Disk>(
     output: &mut K,
     disk: &mut D,
 ) -> Status
-    // It ends as Usage exactly if the words aren't in the grammar.
+    // It ends as Usage exactly if the words ask for no store in memory; memory may run out before that is known.
     ensures words { Asks (setup_of (map string_bytes words.now)) result }
 
     // What is written is what scanning all objects gives, however the input is cut into pieces: all of it
@@ -101,7 +110,7 @@ pub fn run<S: Source, K: Sink, D: Disk>(
     ensures text { (setup : MemorySetup) → setup_of (map string_bytes words.now) ≡ Some setup
         → (script : List ℕ) → S.left input.old ≡ Some script
         → WritesReplies result (first_state setup) script (S.left input.new) (K.taken output.old) (K.taken output.new) }
-    ensures usage { result ≡ Status.Usage → (input.new ≡ input.old) × (output.new ≡ output.old) }
+    ensures usage { setup_of (map string_bytes words.now) ≡ None → (input.new ≡ input.old) × (output.new ≡ output.old) }
     ensures input { (script : List ℕ) → S.left input.old ≡ Some script → LeavesInput result script (S.left input.new) }
 
     // Each status has its cause, and if there is none of the causes the work is done.
@@ -111,8 +120,13 @@ pub fn run<S: Source, K: Sink, D: Disk>(
 
     ensures disk { disk.new ≡ disk.old }
 {
-    match read_words(words) {
-        Some(setup) => dispatch_on_space(alloc, setup, input, output),
+    let Ok(asked) = read_words(alloc, words) else {
+        return Status::NoMemory;
+    };
+    match asked {
+        Some(Asked::Mem(setup)) => dispatch_on_space(alloc, setup, input, output),
+        // no store in a file is served yet
+        Some(Asked::Make { .. } | Asked::Run | Asked::Check | Asked::Trial { .. }) => Status::Usage,
         None => Status::Usage,
     }
 }
