@@ -52,7 +52,7 @@ fn commit_and_crash(
     disk.after_crash(alloc, choice)
 }
 
-/// What page 86 is after the crash and a recovery, where the file had it full of its number.
+/// What page 86 is after the crash and a recovery, if the file had it full of its number.
 fn page_after_crash(
     alloc: Global,
     old: &[u8],

@@ -12,7 +12,7 @@ pub(crate) enum Home {
     Mixed,
 }
 
-/// A file of so many pages: the magic, a closed gate, and each page behind the mark page full of its
+/// A file of so many pages: the magic, a closed gate, and each page after the mark page full of its
 /// number.
 pub(crate) fn file(alloc: Global, pages: u32) -> Result<Vec<u8>, AllocError> {
     let mut file = Vec::new(alloc);

@@ -4,8 +4,8 @@ use spb_edge::Choice;
 use std::alloc::Global;
 use std::test::Fail;
 
-/// What the file stands for once it is recovered, and the same where the recovery is stopped after each
-/// number of its calls and made again; Mixed where these differ.
+/// What the file stands for once it is recovered, and the same if the recovery is stopped after each
+/// number of its calls and made again; Mixed if these differ.
 fn home_whatever_the_stop(alloc: Global, image: &[u8]) -> Result<Home, Fail> {
     let home = home_after_recovery(alloc, image)?;
     for stop in 0..11 {
@@ -24,7 +24,7 @@ fn home_whatever_the_stop(alloc: Global, image: &[u8]) -> Result<Home, Fail> {
 #[test]
 fn a_change_stopped_at_each_call_happens_whole_or_not_at_all(rt: HostRuntime) -> Result<(), Fail> {
     let old = file(rt.alloc(), 90)?;
-    // The sync behind the open gate is the fourth call, and nine calls are made in all.
+    // The sync after the open gate is the fourth call, and nine calls are made in all.
     for stop in 0..10 {
         let mut disk = disk_of(rt.alloc(), &old, &[], Some(stop))?;
         let done = change(rt.alloc(), &mut disk)?;

@@ -98,7 +98,7 @@ spelled_plain words (Trial seed count) (small, one, few, (file, named, is)) =
 pub asked_plain : (words : List (List ℕ)) (a : Asked) → asked_of words ≡ Some a → list_all names_file words ≡ true
 asked_plain words a e = spelled_plain words a ((both_ways words a).0 e)
 
--- where a word is refused, the words ask for nothing
+-- if a word is refused, the words ask for nothing
 pub refused_asks_nothing : (words : List (List ℕ)) → (list_all names_file words ≡ true → ⊥) → asked_of words ≡ None
 refused_asks_nothing words refused = go (asked_of words) refl
   where

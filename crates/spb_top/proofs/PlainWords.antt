@@ -39,7 +39,7 @@ is_no_fault s (b ∷ bs) h plain = let other : (b == 45) ≡ false = no_dash (b 
 
 -- ---- the words of a command without subcommands
 
--- where the walk stands between two words
+-- the state of the walk between two words
 pub record Place : Type 0 where
   pub held : Held
   pub several : Bool
@@ -55,7 +55,7 @@ abbrev taken : List Rule → Option Rule → Text → Place → Place
 taken c None word p = p
 taken c (Some a) word p = record { held = positional_held c a word p.held; several = is_multiple a; position = next_position a p.position }
 
--- where it stands after one more
+-- its state after one more
 abbrev pub moved : List Rule → Place → Text → Place
 moved c p word = taken c (arg_by_index c p.position) word p
 
@@ -123,7 +123,7 @@ walk_fault_is s p (word ∷ words) none plain =
 pub rows_is : (c : List Rule) (words : List Text) → NoneTrails c → list_all names_file words ≡ true → rows_after c [] words ≡ finished c (fold (moved c) start words).held
 rows_is c words none plain = ap (λ (w : Walk). finished c w.held) (walk_is c start words none plain)
 
--- what fails behind the walk
+-- what fails after the walk
 abbrev pub end_fault : Shape → Held → Kinds
 end_fault s h =
     or_else (settle_fault s.rules s.args_override_self h) (or_else (defaults_fault (settled s.rules h).rows s.rules) (check_fault s (finished s.rules h) false))

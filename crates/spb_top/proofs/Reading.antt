@@ -38,7 +38,7 @@ names = names_of program
 abbrev entering : Text → List Text → Walk
 entering name rest = record { held = nothing_held; waiting = idle; position = 1; is_trailing = false; stopped = Some (name, rest) }
 
--- a subcommand takes the words behind its name
+-- a subcommand takes the words after its name
 walk_of : (name : Text) (rest : List Text) → subcommand_met names idle name ≡ Some name → walk [] names nothing_held (name ∷ rest) ≡ entering name rest
 unfolding walked
 walk_of name rest met =
@@ -60,14 +60,14 @@ program_fault first w =
 abbrev sub : ℕ → Shape
 sub i = slice_index_or program.subs i program.top
 
--- the words behind a subcommand's name pass where none of these comes
+-- the words after a subcommand's name pass if none of these comes
 abbrev sub_fault : Shape → List Text → Kinds
 sub_fault s rest = or_else (or_else (moves_fault s start rest) (end_fault s (fold (moved s.rules) start rest).held)) []
 
 abbrev sub_rows : Shape → List Text → List Row
 sub_rows s rest = finished s.rules (fold (moved s.rules) start rest).held
 
--- what clap makes of the words behind a name
+-- what clap makes of the words after a name
 pub record Enters (name : Text) (s : Shape) (rest : List Text) : Type 0 where
   pub fault : fault_of command_spb (name ∷ rest) ≡ sub_fault s rest
   pub rows : subcommand_of command_spb (name ∷ rest) ≡ Some (name, sub_rows s rest)
@@ -114,7 +114,7 @@ enters_trial = enters (codes "trial") (sub 4) refl refl refl (λ rest. refl) (λ
 fails : {k : ErrorKind} {ks : Kinds} → k ∷ ks ≡ [] → ⊥
 fails e = omega (arith, ap length e)
 
--- where clap has no fault, the words behind the name have the meaning that the matches have
+-- if clap has no fault, the words after the name have the meaning that the matches have
 abbrev Reads : Text → Shape → Type 0
 Reads name s = (rest : List Text) → list_all names_file rest ≡ true → sub_fault s rest ≡ [] → words_matched name (sub_rows s rest) ≡ asked_of (name ∷ rest)
 
@@ -142,7 +142,7 @@ make_at file curve pivots cap kind parameters = record {
 named : (file : Text) (words : List Text) → list_all names_file (file ∷ words) ≡ true → names_file file ≡ true
 named file words plain = (both (names_file file) (list_all names_file words) plain).0
 
--- the words of `make` and of `trial`, behind a name that can be a file's
+-- the words of `make` and of `trial`, after a name that can be a file's
 make_is : (file curve pivots cap kind : Text) (parameters : List Text) → names_file file ≡ true
     → option_and_then (λ c. option_and_then (λ p. option_and_then (λ n. option_map (λ s. Make c p n s) (space_in kind parameters)) (positive_in MEMORY_CAP cap)) (positive_in PIVOT_LIMIT pivots)) (curve_in curve)
     ≡ asked_of (codes "make" ∷ file ∷ curve ∷ pivots ∷ cap ∷ kind ∷ parameters)
@@ -193,7 +193,7 @@ reads_trial (file ∷ seed ∷ count ∷ word ∷ words) plain none = absurd (fa
 by_name : (name known : Text) (P : Text → Type 0) → bytes_eq known name ≡ true → P known → P name
 by_name name known P e h = subst P ((bytes_eq-Decides known name).0 e) h
 
--- what the words ask for, where clap has no fault
+-- what the words ask for, if clap has no fault
 abbrev IsRead : List Text → Type 0
 IsRead words = fault_of command_spb words ≡ [] → asked_matched (subcommand_of command_spb words) ≡ asked_of words
 
@@ -260,7 +260,7 @@ passes_trial : (file seed count : Text) → sub_fault (sub 4) (file ∷ seed ∷
 unfolding defaults_fault
 passes_trial file seed count = refl
 
--- the words pass, where those behind the name do
+-- the words pass if those after the name do
 entered_passes : (words rest : List Text) (name : Text) (s : Shape) → words ≡ name ∷ rest → list_all names_file words ≡ true → (list_all names_file rest ≡ true → Enters name s rest) → sub_fault s rest ≡ [] → fault_of command_spb words ≡ []
 entered_passes words rest name s is plain enters none =
     let all : list_all names_file (name ∷ rest) ≡ true = sym (ap (list_all names_file) is) ∙ plain in
@@ -289,7 +289,7 @@ matches_ask app words r m is plain ok matches kinds =
     let none : FailsBy (fault_of command_spb words) (Ok m) = subst (λ r. FailsBy (fault_of command_spb words) r) ok (subst (λ a. is_simple_and_free a ≡ true → FailsBy (fault_of a words) r) is kinds is_free) in
     ap asked_matched (has refl).1 ∙ is_read words plain none
 
--- where a parse fails, but not for want of memory, the words ask for nothing
+-- if a parse fails, but not because memory ran out, the words ask for nothing
 pub refusal_asks_nothing : (app : App) (words : List Text) (r : Result ArgMatches Error) (e : Error) → app ≡ command_spb → list_all names_file words ≡ true → r ≡ Err e
     → (is_simple_and_free app ≡ true → FailsBy (fault_of app words) r) → (error_kind e ≡ OutOfMemory → ⊥) → asked_of words ≡ None
 refusal_asks_nothing app words r e is plain err kinds other =

@@ -13,7 +13,7 @@ infixl 10 ◌>>=◌
 abbrev pub ◌>>=◌ : {A B : Type 0} → Option A → (A → Option B) → Option B
 o >>= f = option_and_then f o
 
--- a kind, and the words behind it
+-- a kind, and the words after it
 abbrev pub mem_matched : List Row → Option Asked
 mem_matched rows = do
   kind ← first_of (codes "kind") rows

@@ -14,13 +14,13 @@ use spb_defs::{Asked, FileUse};
 use spb_edge::{Bytes, Memory};
 use std::alloc::Global;
 
-/// What the words after the program's name ask for, and nothing where they aren't in the grammar.
+/// What the words after the program's name ask for, and nothing if they aren't in the grammar.
 ///
 /// It takes memory in proportion to the number of words, and passes over them a few times.
 ///
 /// # Errors
 ///
-/// [`Memory`] where there is no memory for reading them.
+/// [`Memory`] if there is no memory for reading them.
 pub(crate) fn read_words(alloc: Global, words: &[String]) -> Result<Option<Asked>, Memory>
     ensures exact { IfOk result (λ asked. asked ≡ asked_of (map string_bytes words.now)) }
 {
@@ -49,7 +49,7 @@ pub(crate) fn read_words(alloc: Global, words: &[String]) -> Result<Option<Asked
 ///
 /// # Errors
 ///
-/// [`Memory`] where there is no memory for this.
+/// [`Memory`] if there is no memory for this.
 pub fn file_of(alloc: Global, words: &[String]) -> Result<FileUse, Memory>
     ensures exact { IfOk result (λ file. file ≡ file_use_of (map string_bytes words.now)) }
 {

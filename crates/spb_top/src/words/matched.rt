@@ -56,7 +56,7 @@ fn trial(words: &ArgMatches<'_>) -> Option<Asked>
     Some(Asked::Trial { seed, count })
 }
 
-/// The word that stands in the place of this id.
+/// The word at the place of this id.
 fn word<'a>(words: &ArgMatches<'a>, id: &str) -> Option<&'a str>
     ensures { option_map (λ word. word.now) result ≡ first_of id.now (rows_of (found_of words.now)) }
 {
@@ -85,7 +85,7 @@ fn setup(kind: &[u8], parameters: &[&str]) -> Option<MemorySetup>
     }
 }
 
-/// The store in memory, where two words stand behind the kind.
+/// The store in memory, if two words follow the kind.
 fn two_words(kind: &[u8], first: &[u8], second: &[u8]) -> Option<MemorySetup>
     ensures { result ≡ setup_in kind.now (first.now ∷ second.now ∷ []) }
 {
@@ -160,7 +160,7 @@ fn with_two(kind: &[u8], first: &[u8], second: &[u8]) -> Option<Space>
     None
 }
 
-/// The space, where its numbers are in range.
+/// The space, if its numbers are in range.
 fn fitting(space: Space) -> Option<Space>
     ensures { result ≡ checked_space space }
 {
