@@ -17,14 +17,16 @@ rows_without (row ∷ rows) id new =
     (rows_without rows id (All-tail (λ (other : Entry). other.0 ≢ id) (entry_of row) (entries_of rows) new))
 
 -- an id that a row has can't be added
-pub taken : (is_new : Bool) (seen rows : List Row) (id : ℕ) → (IsTrue is_new ↔ All (λ (row : Row). row.id ≢ id) seen) → seen ≡ rows → is_new ≡ false → All (λ (other : Entry). other.0 ≢ id) (entries_of rows) → ⊥
+pub taken : (is_new : Bool) (seen rows : List Row) (id : ℕ) →
+    (IsTrue is_new ↔ All (λ (row : Row). row.id ≢ id) seen) → seen ≡ rows → is_new ≡ false → All (λ (other : Entry). other.0 ≢ id) (entries_of rows) → ⊥
 taken is_new seen rows id test same isnt fresh =
     let yes : is_new ≡ true = test.1 (subst (λ rs. All (λ (row : Row). row.id ≢ id) rs) (sym same) (rows_without rows id fresh)) in
     let clash : false ≡ true = sym isnt ∙ yes in
     cc
 
 -- a string of the length, with an id that no row has, where there is room
-pub addable : (len : ℕ) (rows : List Row) (entry : Entry) → IsString len entry.1 → All (λ (row : Row). row.id ≢ entry.0) rows → length rows < 2 ^ 31 → IsAddable len (entries_of rows) entry
+pub addable : (len : ℕ) (rows : List Row) (entry : Entry) → IsString len entry.1 → All (λ (row : Row). row.id ≢ entry.0) rows →
+    length rows < 2 ^ 31 → IsAddable len (entries_of rows) entry
 addable len rows entry string new room = record {
   string = string;
   id = All-map (λ (other : Entry). other.0 ≢ entry.0) entry_of rows new;
@@ -32,6 +34,7 @@ addable len rows entry string new room = record {
 }
 
 -- one row more is one entry more
-pub entries-append : (after rows : List Row) (row : Row) (entry : Entry) → after ≡ rows ++ row ∷ [] → entry_of row ≡ entry → entries_of after ≡ entries_of rows ++ entry ∷ []
+pub entries-append : (after rows : List Row) (row : Row) (entry : Entry) → after ≡ rows ++ row ∷ [] →
+    entry_of row ≡ entry → entries_of after ≡ entries_of rows ++ entry ∷ []
 entries-append after rows row entry grown same =
     ap entries_of grown ∙ map-append entry_of rows (row ∷ []) ∙ ap (λ (e : Entry). entries_of rows ++ e ∷ []) same

@@ -13,4 +13,5 @@ loop-weight-preserved c = record {
 
 pub returns-clause-some : goal.returns-clause-some
 returns-clause-some c =
-    weights_at_end c.args.weights.now c.loop-weight.weight-index c.loop-weight.total (omega arith) c.loop-weight.invariant.positive c.loop-weight.invariant.total c.loop-weight.invariant.few
+    weights_at_end c.args.weights.now c.loop-weight.weight-index c.loop-weight.total (omega arith) c.loop-weight.invariant.positive
+    c.loop-weight.invariant.total c.loop-weight.invariant.few
