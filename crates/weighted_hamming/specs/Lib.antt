@@ -1,0 +1,4 @@
+pub use Rattle.metrics_builtin.specs.Strings
+pub mod Entries
+pub mod Weighted
+pub mod WeightedLaws
