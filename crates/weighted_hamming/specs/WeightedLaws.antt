@@ -88,8 +88,13 @@ weighted_dist-comm [] xs ys e f = weighted_dist-nil xs ys ∙ sym (weighted_dist
 weighted_dist-comm (w ∷ ws) [] ys e f = absurd (omega arith)
 weighted_dist-comm (w ∷ ws) (x ∷ xs) [] e f = absurd (omega arith)
 weighted_dist-comm (w ∷ ws) (x ∷ xs) (y ∷ ys) e f =
-    omega (arith, weighted_dist-cons w x y ws xs ys, weighted_dist-cons w y x ws ys xs, added_comm w x y,
-    weighted_dist-comm ws xs ys (omega arith) (omega arith))
+    omega (
+      arith,
+      weighted_dist-cons w x y ws xs ys,
+      weighted_dist-cons w y x ws ys xs,
+      added_comm w x y,
+      weighted_dist-comm ws xs ys (omega arith) (omega arith),
+    )
 
 -- a way round is never shorter
 pub weighted_dist-triangle : (ws xs ys zs : List ℕ) → length xs ≡ length ws → length ys ≡ length ws → length zs ≡ length ws →

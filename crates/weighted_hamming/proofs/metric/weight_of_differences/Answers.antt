@@ -1,4 +1,4 @@
-use Rattle.std.proofs.Common.{◌≡◌, ◌+◌, ◌≤◌, sum, get_or, arith}
+use Rattle.std.proofs.Common.{get_or, arith}
 use Rattle.weighted_hamming.specs.WeightedLaws.{added-same, added-apart, weighted_dist-drop, weighted_dist-end, weighted_dist-le}
 use Rattle.weighted_hamming.proofs.metric.weight_of_differences.Goals as goal
 use Rattle.weighted_hamming.proofs.metric.weight_of_differences.Goals.{then-a-i, else-a-i}
