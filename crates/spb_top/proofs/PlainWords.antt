@@ -1,10 +1,10 @@
 -- Words that are no flags: each goes to the positional whose turn it is.
 use Rattle.std.proofs.Common.{◌≡◌, ◌∙◌, ap, ap₂, sym, refl, ℕ, ◌==◌, Bool, true, false, not, ◌&&◌, List, [], ◌∷◌, ◌++◌, Option, Some, None, append-nil, append_assoc}
-use Rattle.std.specs.Prelude.{IfSome, find, fold, if◌then◌else◌, codes}
+use Rattle.std.specs.Prelude.{IfSome, find, fold, if◌then◌else◌}
 use Rattle.std.specs.List.{list_all}
 use Rattle.std.specs.Option.{option_map_or}
 use Rattle.spb_defs.specs.Words.{names_file}
-use Rattle.clap.specs.Walk.{Held, Names, Row, Rule, Step, Text, Waiting, Walk, after_step, arg_by_index, finished, idle, is_multiple, next_position, nothing_held, positional, positional_held, rows_after, settled, subcommand_or_other, to_positional, value, walk, walk_from, walked}
+use Rattle.clap.specs.Walk.{Held, Rule, Text, Walk, after_step, arg_by_index, finished, idle, is_multiple, next_position, nothing_held, positional, positional_held, rows_after, settled, subcommand_or_other, to_positional, value, walked}
 use Rattle.clap.specs.Simple.{Shape}
 use Rattle.clap.specs.Kinds.{Kinds, or_else}
 use Rattle.clap.specs.Faults.{check_fault, defaults_fault, level_fault, other_fault, positional_fault, settle_fault, stray_fault, turn_fault, walk_fault}

@@ -1,10 +1,9 @@
 -- What clap makes of the words of the program.
-use Rattle.std.proofs.Common.{◌≡◌, ◌⊎◌, ◌∙◌, ap, ap₂, sym, subst, refl, ℕ, Bool, true, false, ◌&&◌, ◌||◌, List, [], ◌∷◌, ◌++◌, Option, Some, None, Result, Ok, Err, IfOk, inl, inr, arith, is_some, length}
-use Rattle.std.specs.Prelude.{IsTrue, codes, fold, if◌then◌else◌, option_and_then, option_map}
+use Rattle.std.proofs.Common.{◌≡◌, ◌∙◌, ap, ap₂, sym, subst, refl, ℕ, Bool, true, false, List, [], ◌∷◌, ◌++◌, Option, Some, None, Result, Ok, Err, IfOk, inl, inr, arith, is_some, length}
+use Rattle.std.specs.Prelude.{codes, fold, if◌then◌else◌, option_and_then, option_map}
 use Rattle.std.specs.List.{list_all, slice_index_or}
 use Rattle.std.specs.Str.{bytes_eq}
 use Rattle.std.proofs.lemmas.Slice.Eq.{bytes_eq-Decides}
-use Rattle.std.proofs.lemmas.Option.{none-some}
 use Rattle.std.specs.Fmt.{decimal}
 use Rattle.metrics_builtin.specs.declared.Space.{Space}
 use Rattle.metrics_builtin.specs.declared.Space.TheVariants.{L1, LInf, Hamming, Sets}
@@ -12,9 +11,9 @@ use Rattle.spb_defs.specs.declared.Asked.{Asked}
 use Rattle.spb_defs.specs.declared.Asked.TheVariants.{Mem, Make, Run, Check, Trial}
 use Rattle.spb_defs.specs.Numbers.{number_of}
 use Rattle.spb_defs.specs.declared.TheConstants.{PIVOT_LIMIT, MEMORY_CAP}
-use Rattle.spb_defs.specs.Words.{asked_of, mem_in, names_file, kind_of, parameters_of, curve_word, curve_in, positive_in, space_in, AreWordsFor}
+use Rattle.spb_defs.specs.Words.{asked_of, names_file, kind_of, parameters_of, curve_word, curve_in, positive_in, space_in, AreWordsFor}
 use Rattle.spb_defs.proofs.Spelling.{both_ways}
-use Rattle.clap.specs.Walk.{Names, Row, Rule, Text, Walk, after_step, finished, idle, nothing_held, rows_after, settled, subcommand_met, subcommand_or_other, walk, walk_from, walked}
+use Rattle.clap.specs.Walk.{Names, Row, Text, Walk, after_step, finished, idle, nothing_held, rows_after, settled, subcommand_met, subcommand_or_other, walk, walk_from, walked}
 use Rattle.clap.specs.Simple.{App, HasMatchesOf, Shape, built, entered, names_of, subcommand_of, subcommand_rows_of}
 use Rattle.clap.specs.Values.{kind_of as error_kind}
 use Rattle.clap.specs.Kinds.{FailsBy, HasKind, IsAmong, Kinds, or_else}

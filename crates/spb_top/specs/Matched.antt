@@ -1,5 +1,5 @@
 -- What the matches of a command line ask for: the words are put together again.
-use Rattle.std.specs.Prelude.{List, [], ◌∷◌, Option, Some, None, option_and_then, option_map, codes, if◌then◌else◌}
+use Rattle.std.specs.Prelude.{List, ◌∷◌, Option, Some, None, option_and_then, option_map, codes, if◌then◌else◌}
 use Rattle.std.specs.Str.{bytes_eq}
 use Rattle.clap.specs.Words.{Row, Text, first_of, all_of}
 use Rattle.spb_defs.specs.declared.Asked.{Asked}

@@ -1,5 +1,6 @@
-ghost use Rattle.std.specs.Prelude.{◌≡◌, ◌++◌, OnOk};
+ghost use Rattle.std.specs.Prelude.{◌≡◌, ◌++◌, OnOk, codes};
 ghost use Rattle.std.specs.Fmt.{decimal};
+ghost use Rattle.page_laws.specs.Rules.{rule_name};
 ghost use Rattle.spb_top.specs.Status.{code_of, status_text, damaged_text, bad_sample_text};
 
 use itoa::Buffer;
@@ -95,9 +96,16 @@ fn damaged_line(page: u32, rule: Rule, text: &mut Bytes) -> Result<(), Memory>
     ensures { OnOk result (text.new ≡ text.old ++ damaged_text page rule) }
 {
     append_number(b"spb: damaged page ", u64::from(page), text)?;
-    text.append(b" rule ")?;
-    text.append(rule.name().as_bytes())?;
+    append_rule(rule, text)?;
     text.append(b"\n")
+}
+
+/// Puts the name of the rule at the end of `text`, behind the word for it.
+fn append_rule(rule: Rule, text: &mut Bytes) -> Result<(), Memory>
+    ensures { OnOk result (text.new ≡ text.old ++ codes " rule " ++ rule_name rule) }
+{
+    text.append(b" rule ")?;
+    text.append(rule.name().as_bytes())
 }
 
 /// Puts the line for a line of the input that isn't a sample at the end of `text`.

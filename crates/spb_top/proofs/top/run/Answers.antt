@@ -1,4 +1,4 @@
-use Rattle.std.proofs.Common.{◌≡◌, Some, map}
+use Rattle.std.proofs.Common.{◌≡◌, ◌∙◌, sym, rules, Some, map}
 use Rattle.std.specs.String.{string_bytes}
 use Rattle.spb_defs.specs.declared.Asked.TheVariants.{Mem}
 use Rattle.spb_defs.specs.Words.{asked_of}
@@ -16,10 +16,14 @@ pub dispatch_on_space-requires-clause-fits : goal.dispatch_on_space-requires-cla
 dispatch_on_space-requires-clause-fits g c =
     let exact = c.in-Ok.ensures.exact in
     let is = c.in-Some-Mem.is in
-    let asks : asked_of (map string_bytes c.args.words.now) ≡ Some (Mem c.in-Some-Mem.setup) = cc in (asked_fits (map string_bytes c.args.words.now) c.in-Some-Mem.setup asks).0
+    let inner = c.in-Some-Mem.field-0-is in
+    let made = c.in-Some-Mem.setup-is in
+    let asks : asked_of (map string_bytes c.args.words.now) ≡ Some (Mem c.in-Some-Mem.setup) = sym exact ∙ is ∙ search (rules, inner, made) in (asked_fits (map string_bytes c.args.words.now) c.in-Some-Mem.setup asks).0
 
 pub dispatch_on_space-requires-clause-few : goal.dispatch_on_space-requires-clause-few
 dispatch_on_space-requires-clause-few g c =
     let exact = c.in-Ok.ensures.exact in
     let is = c.in-Some-Mem.is in
-    let asks : asked_of (map string_bytes c.args.words.now) ≡ Some (Mem c.in-Some-Mem.setup) = cc in (asked_fits (map string_bytes c.args.words.now) c.in-Some-Mem.setup asks).1
+    let inner = c.in-Some-Mem.field-0-is in
+    let made = c.in-Some-Mem.setup-is in
+    let asks : asked_of (map string_bytes c.args.words.now) ≡ Some (Mem c.in-Some-Mem.setup) = sym exact ∙ is ∙ search (rules, inner, made) in (asked_fits (map string_bytes c.args.words.now) c.in-Some-Mem.setup asks).1

@@ -1,4 +1,4 @@
-use Rattle.std.proofs.Common.{◌≡◌, ◌∙◌, sym, map, true, false}
+use Rattle.std.proofs.Common.{◌≡◌, ◌∙◌, sym, map, true}
 use Rattle.std.proofs.lemmas.Bool.{false≢true}
 use Rattle.std.specs.String.{string_bytes}
 use Rattle.clap.specs.Words.{app_of}
