@@ -78,19 +78,12 @@ fn page_after_crash(
 #[test]
 fn a_crash_leaves_a_committed_page_or_none(rt: HostRuntime) -> Result<(), Fail> {
     let old = file(rt.alloc(), 90)?;
-    // The calls of a commit: the journal and a sync, the gate and a sync.
-    for (failing, choice, home) in [
-        (1, Choice::Fill(1), Home::Old),
-        (2, Choice::Fill(1), Home::Old),
-        (3, Choice::KeepAll, Home::Old),
-        (3, Choice::Fill(1), Home::New),
-        (4, Choice::DropAll, Home::Old),
-        (4, Choice::Fill(0x37), Home::Old),
-        (4, Choice::KeepAll, Home::New),
-        // a call that isn't made
-        (5, Choice::DropAll, Home::New),
-    ] {
-        assert!(rt; page_after_crash(rt.alloc(), &old, &[failing], choice)? == home);
-    }
+    // The calls of a commit: the journal and a sync, the gate and a sync. A fifth one isn't made.
+    let none_fails = page_after_crash(rt.alloc(), &old, &[5], Choice::DropAll)?;
+    assert!(rt; none_fails == Home::New);
+    let gate_not_kept = page_after_crash(rt.alloc(), &old, &[4], Choice::DropAll)?;
+    assert!(rt; gate_not_kept == Home::Old);
+    let gate_torn_open = page_after_crash(rt.alloc(), &old, &[3], Choice::Fill(1))?;
+    assert!(rt; gate_torn_open == Home::New);
     Ok(())
 }

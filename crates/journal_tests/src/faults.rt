@@ -48,20 +48,9 @@ fn home_on_the_same_disk(
 #[test]
 fn a_file_is_opened_again_on_the_disk_that_failed(rt: HostRuntime) -> Result<(), Fail> {
     let old = file(rt.alloc(), 90)?;
-    for (failing, choice, home) in [
-        // The gate stayed closed.
-        (2, Choice::KeepAll, Home::Old),
-        (2, Choice::DropAll, Home::Old),
-        (2, Choice::Fill(0x37), Home::Old),
-        // The last sync of the commit: nothing was kept of the open gate, and yet it is found open.
-        (4, Choice::KeepAll, Home::New),
-        (4, Choice::DropAll, Home::New),
-        (4, Choice::Fill(0x37), Home::New),
-        // The second page on its way home.
-        (6, Choice::DropAll, Home::New),
-        (6, Choice::Fill(0x37), Home::New),
-    ] {
-        assert!(rt; home_on_the_same_disk(rt.alloc(), &old, &[failing], choice)? == home);
+    // The last sync of the commit: nothing was kept of the open gate, and yet it is found open.
+    for choice in [Choice::KeepAll, Choice::DropAll, Choice::Fill(0x37)] {
+        assert!(rt; home_on_the_same_disk(rt.alloc(), &old, &[4], choice)? == Home::New);
     }
     Ok(())
 }
