@@ -78,8 +78,8 @@ impl<M: Metric> MemSession<M> {
     ///
     /// An addition, a removal and a look-up take time in the logarithm of the number of objects, and an
     /// addition its distances to the pivots; a count takes none. A range passes over the rows of one
-    /// collection once, a query for the nearest also puts them in order, and a join passes over the pairs.
-    /// The session keeps memory for samples, pivots and rows, and a turn takes it for its answer.
+    /// collection once, a query for the nearest also makes a heap of their bounds, and a join passes over
+    /// the pairs. The session keeps memory for samples, pivots and rows, and a turn takes it for its answer.
     ///
     /// # Errors
     ///
