@@ -28,7 +28,8 @@ ids-from_sort xs ys moved sorted =
 
 -- ---- ranks
 
-pub sorted_by-from_sort : (xs ys : List Pair) → IsPermutation xs ys → IsSorted (λ (a b : Pair). ordering_then (nat_cmp a.0 b.0) (nat_cmp a.1 b.1)) ys → ys ≡ sorted_by goes_before xs
+pub sorted_by-from_sort : (xs ys : List Pair) → IsPermutation xs ys → IsSorted (λ (a b : Pair). ordering_then (nat_cmp a.0 b.0) (nat_cmp a.1 b.1)) ys
+    → ys ≡ sorted_by goes_before xs
 sorted_by-from_sort xs ys moved sorted = laws.sorted_by-from_sort goes_before laws.pair_order xs ys moved sorted
 
 abbrev pub InOrder : List Pair → Type 0

@@ -38,7 +38,8 @@ AreAllAfter before front back = AllByRecursion (λ x. AllByRecursion (λ y. befo
 -- ---- what holds by any test
 
 module _ {A : Type 0} (before : A → A → Bool) where
-  all_if : (P : A → Type 0) (b : Bool) (x y : A) (ys more : List A) → P x → P y → AllByRecursion P ys → AllByRecursion P more → AllByRecursion P (if b then y ∷ more else x ∷ y ∷ ys)
+  all_if : (P : A → Type 0) (b : Bool) (x y : A) (ys more : List A) → P x → P y → AllByRecursion P ys → AllByRecursion P more
+      → AllByRecursion P (if b then y ∷ more else x ∷ y ∷ ys)
   all_if P true x y ys more p q all others = (q, others)
   all_if P false x y ys more p q all others = (p, (q, all))
 
@@ -63,7 +64,8 @@ module _ {A : Type 0} (before : A → A → Bool) where
   pub sorted_by-permutation : (xs : List A) → IsPermutation (sorted_by before xs) xs
   unfolding sorted_by
   sorted_by-permutation [] = IsPermutation-refl []
-  sorted_by-permutation (x ∷ xs) = IsPermutation-trans _ _ _ (with_inserted-permutation x (sorted_by before xs)) (IsPermutation-cons x (sorted_by before xs) xs (sorted_by-permutation xs))
+  sorted_by-permutation (x ∷ xs) = IsPermutation-trans _ _ _ (with_inserted-permutation x (sorted_by before xs))
+      (IsPermutation-cons x (sorted_by before xs) xs (sorted_by-permutation xs))
 
   pub permutation-sorted_by : (xs : List A) → IsPermutation xs (sorted_by before xs)
   permutation-sorted_by xs = IsPermutation-sym _ _ (sorted_by-permutation xs)
@@ -88,13 +90,15 @@ module _ {A : Type 0} (before : A → A → Bool) where
 
 -- an order by a key is one of the keys
 module _ {A B : Type 0} (before : B → B → Bool) (key : A → B) where
-  map_if : (b : Bool) (x y : A) (ys more : List A) (more' : List B) → map key more ≡ more' → map key (if b then y ∷ more else x ∷ y ∷ ys) ≡ (if b then key y ∷ more' else key x ∷ key y ∷ map key ys)
+  map_if : (b : Bool) (x y : A) (ys more : List A) (more' : List B) → map key more ≡ more'
+      → map key (if b then y ∷ more else x ∷ y ∷ ys) ≡ (if b then key y ∷ more' else key x ∷ key y ∷ map key ys)
   map_if true x y ys more more' h = ap (λ zs. key y ∷ zs) h
   map_if false x y ys more more' h = refl
 
   map-with_inserted : (x : A) (ys : List A) → map key (with_inserted (λ a b. before (key a) (key b)) x ys) ≡ with_inserted before (key x) (map key ys)
   map-with_inserted x [] = refl
-  map-with_inserted x (y ∷ ys) = map_if (before (key y) (key x)) x y ys (with_inserted (λ a b. before (key a) (key b)) x ys) (with_inserted before (key x) (map key ys)) (map-with_inserted x ys)
+  map-with_inserted x (y ∷ ys) = map_if (before (key y) (key x)) x y ys (with_inserted (λ a b. before (key a) (key b)) x ys)
+      (with_inserted before (key x) (map key ys)) (map-with_inserted x ys)
 
   pub sorted_by-map : (xs : List A) → map key (sorted_by (λ a b. before (key a) (key b)) xs) ≡ sorted_by before (map key xs)
   unfolding sorted_by
@@ -108,7 +112,8 @@ module _ {A : Type 0} (before : A → A → Bool) (w : IsStrictWeakOrder before)
   further x y [] h all = tt
   further x y (z ∷ zs) h all = (w.chain z y x all.0 h, further x y zs h all.1)
 
-  ordered_if : (b : Bool) (x y : A) (ys : List A) → before y x ≡ b → IsInOrder before (y ∷ ys) → IsInOrder before (with_inserted before x ys) → IsInOrder before (if b then y ∷ with_inserted before x ys else x ∷ y ∷ ys)
+  ordered_if : (b : Bool) (x y : A) (ys : List A) → before y x ≡ b → IsInOrder before (y ∷ ys) → IsInOrder before (with_inserted before x ys)
+      → IsInOrder before (if b then y ∷ with_inserted before x ys else x ∷ y ∷ ys)
   ordered_if true x y ys is up more = (all-with_inserted before (λ z. before z y ≡ false) x ys (w.one_way y x is) up.0, more)
   ordered_if false x y ys is up more = ((is, further x y ys is up.0), up)
 
@@ -183,7 +188,8 @@ module _ {A : Type 0} (before : A → A → Bool) (w : IsStrictWeakOrder before)
   -- b: y goes before x; s: x passes; t: y passes
   filtered_if : (p : A → Bool) (b s t : Bool) (x y : A) (ys : List A) → p x ≡ s → p y ≡ t → before y x ≡ b → AllByRecursion (λ z. before z y ≡ false) ys
       → filter p (with_inserted before x ys) ≡ cond s (with_inserted before x (filter p ys)) (filter p ys)
-      → filter p (if b then y ∷ with_inserted before x ys else x ∷ y ∷ ys) ≡ cond s (with_inserted before x (cond t (y ∷ filter p ys) (filter p ys))) (cond t (y ∷ filter p ys) (filter p ys))
+      → filter p (if b then y ∷ with_inserted before x ys else x ∷ y ∷ ys)
+          ≡ cond s (with_inserted before x (cond t (y ∷ filter p ys) (filter p ys))) (cond t (y ∷ filter p ys) (filter p ys))
   filtered_if p true true true x y ys hx hy is up more =
       ap (λ c. cond c (y ∷ filter p (with_inserted before x ys)) (filter p (with_inserted before x ys))) hy
       ∙ ap (λ zs. y ∷ zs) more
@@ -207,11 +213,13 @@ module _ {A : Type 0} (before : A → A → Bool) (w : IsStrictWeakOrder before)
       ap (λ c. cond c (x ∷ cond (p y) (y ∷ filter p ys) (filter p ys)) (cond (p y) (y ∷ filter p ys) (filter p ys))) hx
       ∙ ap (λ c. cond c (y ∷ filter p ys) (filter p ys)) hy
 
-  filter-with_inserted : (p : A → Bool) (x : A) (ys : List A) → IsInOrder before ys → filter p (with_inserted before x ys) ≡ cond (p x) (with_inserted before x (filter p ys)) (filter p ys)
+  filter-with_inserted : (p : A → Bool) (x : A) (ys : List A) → IsInOrder before ys
+      → filter p (with_inserted before x ys) ≡ cond (p x) (with_inserted before x (filter p ys)) (filter p ys)
   filter-with_inserted p x [] up = refl
   filter-with_inserted p x (y ∷ ys) up = filtered_if p (before y x) (p x) (p y) x y ys refl refl refl up.0 (filter-with_inserted p x ys up.1)
 
-  arranged_if : (b : Bool) (x : A) (ys zs : List A) → with_inserted before x ys ≡ sorted_by before (x ∷ zs) → ys ≡ sorted_by before zs → sorted_by before (cond b (x ∷ zs) zs) ≡ cond b (with_inserted before x ys) ys
+  arranged_if : (b : Bool) (x : A) (ys zs : List A) → with_inserted before x ys ≡ sorted_by before (x ∷ zs) → ys ≡ sorted_by before zs
+      → sorted_by before (cond b (x ∷ zs) zs) ≡ cond b (with_inserted before x ys) ys
   arranged_if true x ys zs h k = sym h
   arranged_if false x ys zs h k = sym k
 
@@ -239,9 +247,11 @@ module _ {A : Type 0} (before : A → A → Bool) where
   all-front P [] ys all = tt
   all-front P (x ∷ xs) ys all = (all.0, all-front P xs ys all.1)
 
-  pub in_order-append : (front back : List A) → IsInOrder before front → IsInOrder before back → AreAllAfter before front back → IsInOrder before (front ++ back)
+  pub in_order-append : (front back : List A) → IsInOrder before front → IsInOrder before back → AreAllAfter before front back
+      → IsInOrder before (front ++ back)
   in_order-append [] back up more behind = more
-  in_order-append (x ∷ front) back up more behind = (all-append (λ y. before y x ≡ false) front back up.0 behind.0, in_order-append front back up.1 more behind.1)
+  in_order-append (x ∷ front) back up more behind =
+      (all-append (λ y. before y x ≡ false) front back up.0 behind.0, in_order-append front back up.1 more behind.1)
 
   -- the parts of a list in order are in order, and the second comes after the first
   pub in_order-front : (front back : List A) → IsInOrder before (front ++ back) → IsInOrder before front
@@ -343,7 +353,8 @@ module _ {A : Type 0} (before : A → A → Bool) (o : IsStrictOrder before) whe
   -- a list in order of the items of xs is the sorted list
   pub sorted_by-unique : (xs ys : List A) → IsPermutation xs ys → IsInOrder before ys → ys ≡ sorted_by before xs
   sorted_by-unique xs ys moved up =
-      in_order-same ys (sorted_by before xs) up (in_order-sorted_by before weak xs) (IsPermutation-trans _ _ _ (IsPermutation-sym _ _ moved) (permutation-sorted_by before xs))
+      in_order-same ys (sorted_by before xs) up (in_order-sorted_by before weak xs)
+          (IsPermutation-trans _ _ _ (IsPermutation-sym _ _ moved) (permutation-sorted_by before xs))
 
   -- what a sort gives
   pub sorted_by-from_sort : (xs ys : List A) → IsPermutation xs ys → IsSortedBy before ys → ys ≡ sorted_by before xs
@@ -352,27 +363,33 @@ module _ {A : Type 0} (before : A → A → Bool) (o : IsStrictOrder before) whe
   -- the order of the items in a list doesn't change the sorted list
   pub sorted_by-same : (xs ys : List A) → IsPermutation xs ys → sorted_by before xs ≡ sorted_by before ys
   sorted_by-same xs ys moved =
-      sorted_by-unique ys (sorted_by before xs) (IsPermutation-trans _ _ _ (IsPermutation-sym _ _ moved) (permutation-sorted_by before xs)) (in_order-sorted_by before weak xs)
+      sorted_by-unique ys (sorted_by before xs) (IsPermutation-trans _ _ _ (IsPermutation-sym _ _ moved) (permutation-sorted_by before xs))
+          (in_order-sorted_by before weak xs)
 
   -- if the second list comes after the first, each is sorted by itself
-  pub sorted_by-append : (front back : List A) → AreAllAfter before front back → sorted_by before (front ++ back) ≡ sorted_by before front ++ sorted_by before back
+  pub sorted_by-append : (front back : List A) → AreAllAfter before front back
+      → sorted_by before (front ++ back) ≡ sorted_by before front ++ sorted_by before back
   sorted_by-append front back behind =
       sym
       (sorted_by-unique (front ++ back) (sorted_by before front ++ sorted_by before back)
       (IsPermutation-append _ _ _ _ (permutation-sorted_by before front) (permutation-sorted_by before back))
-      (in_order-append before (sorted_by before front) (sorted_by before back) (in_order-sorted_by before weak front) (in_order-sorted_by before weak back) (behind-sorted_by before front back behind)))
+      (in_order-append before (sorted_by before front) (sorted_by before back) (in_order-sorted_by before weak front) (in_order-sorted_by before weak back)
+          (behind-sorted_by before front back behind)))
 
   -- a prefix of the sorted list stays if all that is added comes after it
-  pub sorted_by-more : (xs more front back : List A) → sorted_by before xs ≡ front ++ back → AreAllAfter before front more → sorted_by before (xs ++ more) ≡ front ++ sorted_by before (back ++ more)
+  pub sorted_by-more : (xs more front back : List A) → sorted_by before xs ≡ front ++ back → AreAllAfter before front more
+      → sorted_by before (xs ++ more) ≡ front ++ sorted_by before (back ++ more)
   sorted_by-more xs more front back parts behind =
       let up : IsInOrder before (front ++ back) = subst (IsInOrder before) parts (in_order-sorted_by before weak xs) in
       let moved : IsPermutation xs (front ++ back) = subst (IsPermutation xs) parts (permutation-sorted_by before xs) in
-      sorted_by-same (xs ++ more) (front ++ (back ++ more)) (subst (IsPermutation (xs ++ more)) (append_assoc front back more) (IsPermutation-append _ _ _ _ moved (IsPermutation-refl more)))
+      sorted_by-same (xs ++ more) (front ++ (back ++ more))
+          (subst (IsPermutation (xs ++ more)) (append_assoc front back more) (IsPermutation-append _ _ _ _ moved (IsPermutation-refl more)))
       ∙ sorted_by-append front (back ++ more) (behind-append before front back more (in_order-behind before front back up) behind)
       ∙ ap (λ zs. zs ++ sorted_by before (back ++ more)) (sorted_by-already before weak front (in_order-front before front back up))
 
   -- the parts of the sorted list are in order, and the second comes after the first
-  pub sorted_by-parts : (xs front back : List A) → sorted_by before xs ≡ front ++ back → IsInOrder before front × IsInOrder before back × AreAllAfter before front back
+  pub sorted_by-parts : (xs front back : List A) → sorted_by before xs ≡ front ++ back → IsInOrder before front × IsInOrder before back
+      × AreAllAfter before front back
   sorted_by-parts xs front back parts =
       let up : IsInOrder before (front ++ back) = subst (IsInOrder before) parts (in_order-sorted_by before weak xs) in
       (in_order-front before front back up, in_order-back before front back up, in_order-behind before front back up)
@@ -380,14 +397,16 @@ module _ {A : Type 0} (before : A → A → Bool) (o : IsStrictOrder before) whe
   -- ---- the first of the sorted list
 
   -- items of which none of the others goes before one are the first
-  pub sorted_by-first : (xs front back : List A) → IsPermutation xs (front ++ back) → AreAllAfter before front back → take (length front) (sorted_by before xs) ≡ sorted_by before front
+  pub sorted_by-first : (xs front back : List A) → IsPermutation xs (front ++ back) → AreAllAfter before front back
+      → take (length front) (sorted_by before xs) ≡ sorted_by before front
   sorted_by-first xs front back moved behind =
       ap (take (length front)) (sorted_by-same xs (front ++ back) moved ∙ sorted_by-append front back behind)
       ∙ ap (λ n. take n (sorted_by before front ++ sorted_by before back)) (sym (sorted_by-length before front))
       ∙ take-append_seam (sorted_by before front) (sorted_by before back)
 
   -- an item that doesn't go before the last of a list in order goes before none of it
-  behind_all : (front : List A) (last : A) (more : List A) → AllByRecursion (λ x. before last x ≡ false) front → AllByRecursion (λ y. before y last ≡ false) more → AreAllAfter before front more
+  behind_all : (front : List A) (last : A) (more : List A) → AllByRecursion (λ x. before last x ≡ false) front
+      → AllByRecursion (λ y. before y last ≡ false) more → AreAllAfter before front more
   behind_all [] last more all others = tt
   behind_all (x ∷ front) last more all others = (each more others, behind_all front last more all.1 others)
     where
@@ -404,7 +423,8 @@ module _ {A : Type 0} (before : A → A → Bool) (o : IsStrictOrder before) whe
       first_of x (y ∷ ys) zero all inside = all.0
       first_of x (y ∷ ys) (suc k) all inside = first_of x ys k all.1 (omega (arith, inside))
 
-      upto : (xs : List A) (k : ℕ) (last : A) → get_or xs k last ≡ last → k < length xs → IsInOrder before xs → AllByRecursion (λ x. before last x ≡ false) (take (suc k) xs)
+      upto : (xs : List A) (k : ℕ) (last : A) → get_or xs k last ≡ last → k < length xs → IsInOrder before xs
+          → AllByRecursion (λ x. before last x ≡ false) (take (suc k) xs)
       upto [] k last is inside up = tt
       upto (x ∷ xs) zero last is inside up = (subst (λ z. before last z ≡ false) (sym is) (o.never_itself last), tt)
       upto (x ∷ xs) (suc k) last is inside up =
@@ -413,14 +433,16 @@ module _ {A : Type 0} (before : A → A → Bool) (o : IsStrictOrder before) whe
           (subst (λ z. before z x ≡ false) there (first_of x xs k up.0 inner), upto xs k last is inner up.1)
 
   -- the first k stay the first k if none that comes to the list goes before the k-th
-  pub sorted_by-take : (k : ℕ) (xs more : List A) (last : A) → slice_get (sorted_by before xs) (k - 1) ≡ Some last → All (λ y. before y last ≡ false) more → take k (sorted_by before (xs ++ more)) ≡ take k (sorted_by before xs)
+  pub sorted_by-take : (k : ℕ) (xs more : List A) (last : A) → slice_get (sorted_by before xs) (k - 1) ≡ Some last → All (λ y. before y last ≡ false) more
+      → take k (sorted_by before (xs ++ more)) ≡ take k (sorted_by before xs)
   sorted_by-take zero xs more last is others = refl
   sorted_by-take (suc k) xs more last is others =
       let same_place : suc k - 1 ≡ k = omega arith in
       let place : slice_get (sorted_by before xs) k ≡ Some last = subst (λ n. slice_get (sorted_by before xs) n ≡ Some last) same_place is in
       let front = take (suc k) (sorted_by before xs) in
       let back = drop (suc k) (sorted_by before xs) in
-      let behind : AreAllAfter before front more = behind_all front last more (up_to (sorted_by before xs) k last (in_order-sorted_by before weak xs) place) (recursion_from_All (λ y. before y last ≡ false) more others) in
+      let behind : AreAllAfter before front more = behind_all front last more (up_to (sorted_by before xs) k last (in_order-sorted_by before weak xs) place)
+          (recursion_from_All (λ y. before y last ≡ false) more others) in
       let inside = slice_get_within (sorted_by before xs) k last place in
       let long : length front ≡ suc k = length-take-le (suc k) (sorted_by before xs) (omega (arith, inside)) in
       ap (take (suc k)) (sorted_by-more xs more front back (sym (take-append-drop (suc k) (sorted_by before xs))) behind)
@@ -428,7 +450,8 @@ module _ {A : Type 0} (before : A → A → Bool) (o : IsStrictOrder before) whe
       ∙ take-append_seam front (sorted_by before (back ++ more))
 
   -- and the k-th stays the k-th
-  pub sorted_by-place : (k : ℕ) (xs more : List A) (last : A) → slice_get (sorted_by before xs) k ≡ Some last → All (λ y. before y last ≡ false) more → slice_get (sorted_by before (xs ++ more)) k ≡ Some last
+  pub sorted_by-place : (k : ℕ) (xs more : List A) (last : A) → slice_get (sorted_by before xs) k ≡ Some last → All (λ y. before y last ≡ false) more
+      → slice_get (sorted_by before (xs ++ more)) k ≡ Some last
   sorted_by-place k xs more last is others =
       let same_place : suc k - 1 ≡ k = omega arith in
       let place : slice_get (sorted_by before xs) (suc k - 1) ≡ Some last = subst (λ n. slice_get (sorted_by before xs) n ≡ Some last) (sym same_place) is in
@@ -463,7 +486,9 @@ module _ {A B : Type 0} (before : B → B → Bool) (o : IsStrictOrder before) (
   both_flip false false = refl
 
   distinct_keys : (xs : List A) → HasDistinctKeys key xs → IsDistinct (ties by_key) xs
-  distinct_keys xs h = IsDistinct-from_apart (ties by_key) xs (λ i j d less inside. false_from_ne_true (ties by_key (get_or xs i d) (get_or xs j d)) (λ t. h i j d less inside (ties-is before o (key (get_or xs i d)) (key (get_or xs j d)) t)))
+  distinct_keys xs h = IsDistinct-from_apart (ties by_key) xs
+      (λ i j d less inside. false_from_ne_true (ties by_key (get_or xs i d) (get_or xs j d))
+      (λ t. h i j d less inside (ties-is before o (key (get_or xs i d)) (key (get_or xs j d)) t)))
 
   keys_distinct : (xs : List A) → IsDistinct (ties by_key) xs → HasDistinctKeys key xs
   keys_distinct xs h = λ i j d less inside e.
@@ -472,9 +497,11 @@ module _ {A B : Type 0} (before : B → B → Bool) (o : IsStrictOrder before) (
 
   -- distinct keys stay distinct when the items change places
   pub distinct-permutation : (xs ys : List A) → IsPermutation xs ys → HasDistinctKeys key xs → HasDistinctKeys key ys
-  distinct-permutation xs ys moved h = keys_distinct ys (IsDistinct-IsPermutation (ties by_key) (λ x y. both_flip (by_key x y) (by_key y x)) xs ys moved (distinct_keys xs h))
+  distinct-permutation xs ys moved h = keys_distinct ys
+      (IsDistinct-IsPermutation (ties by_key) (λ x y. both_flip (by_key x y) (by_key y x)) xs ys moved (distinct_keys xs h))
 
-  same_place : (xs : List A) (i j : ℕ) (d : A) → HasDistinctKeys key xs → i < length xs → j < length xs → key (get_or xs i d) ≡ key (get_or xs j d) → get_or xs i d ≡ get_or xs j d
+  same_place : (xs : List A) (i j : ℕ) (d : A) → HasDistinctKeys key xs → i < length xs → j < length xs → key (get_or xs i d) ≡ key (get_or xs j d)
+      → get_or xs i d ≡ get_or xs j d
   same_place xs i j d h p q e = ⊎_elim
       (λ less. absurd (h i j d less q e))
       (λ more. ⊎_elim
@@ -510,7 +537,8 @@ module _ {A B : Type 0} (before : B → B → Bool) (o : IsStrictOrder before) (
   -- the order of the items in a list doesn't change the sorted listby distinct keys
   pub arranged_by-same : (xs ys : List A) → IsPermutation xs ys → HasDistinctKeys key xs → sorted_by by_key xs ≡ sorted_by by_key ys
   arranged_by-same xs ys moved h =
-      let whole : IsPermutation (sorted_by by_key xs) (sorted_by by_key ys) = IsPermutation-trans _ _ _ (sorted_by-permutation by_key xs) (IsPermutation-trans _ _ _ moved (permutation-sorted_by by_key ys)) in
+      let whole : IsPermutation (sorted_by by_key xs) (sorted_by by_key ys) =
+          IsPermutation-trans _ _ _ (sorted_by-permutation by_key xs) (IsPermutation-trans _ _ _ moved (permutation-sorted_by by_key ys)) in
       same_items (sorted_by by_key xs) (sorted_by by_key ys)
       (sorted_by-map before key xs ∙ sorted_by-same before o (map key xs) (map key ys) (IsPermutation-map key xs ys moved) ∙ sym (sorted_by-map before key ys))
       whole
@@ -541,7 +569,8 @@ nat_order = record { never_itself = above_itself; transitive = nat_transitive; d
 abbrev pub Pair : Type 0
 Pair = ℕ × ℕ
 
-is_lt-pair : (lt eq lt' eq' : Bool) → is_lt (ordering_then (cond lt Less (cond eq Equal Greater)) (cond lt' Less (cond eq' Equal Greater))) ≡ (lt || (eq && lt'))
+is_lt-pair : (lt eq lt' eq' : Bool) → is_lt (ordering_then (cond lt Less (cond eq Equal Greater)) (cond lt' Less (cond eq' Equal Greater)))
+    ≡ (lt || (eq && lt'))
 is_lt-pair true eq lt' eq' = refl
 is_lt-pair false false lt' eq' = refl
 is_lt-pair false true true eq' = refl
@@ -555,7 +584,8 @@ goes_before-is a b = is_lt-pair (nat_lt a.0 b.0) (a.0 == b.0) (nat_lt a.1 b.1) (
 alone : (a b : ℕ) → (nat_lt a a || ((a == a) && nat_lt b b)) ≡ false
 alone a b = grind (arith, nat_tests)
 
-chained : (a b c d e f : ℕ) → (nat_lt a c || ((a == c) && nat_lt b d)) ≡ true → (nat_lt c e || ((c == e) && nat_lt d f)) ≡ true → (nat_lt a e || ((a == e) && nat_lt b f)) ≡ true
+chained : (a b c d e f : ℕ) → (nat_lt a c || ((a == c) && nat_lt b d)) ≡ true → (nat_lt c e || ((c == e) && nat_lt d f)) ≡ true
+    → (nat_lt a e || ((a == e) && nat_lt b f)) ≡ true
 chained a b c d e f h k = grind (arith, nat_tests)
 
 firsts_same : (a b c d : ℕ) → (nat_lt a c || ((a == c) && nat_lt b d)) ≡ false → (nat_lt c a || ((c == a) && nat_lt d b)) ≡ false → a ≡ c

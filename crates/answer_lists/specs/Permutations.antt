@@ -17,9 +17,11 @@ module _ {A B : Type 0} (f : A → List B) where
   flat_map-set (z ∷ l) zero x d inside = permutation-fronts (f x) (f z) (flat_map f l)
   flat_map-set (z ∷ l) (suc j) x d inside =
       IsPermutation-trans _ _ _ (permutation-fronts (f x) (f z) (flat_map f l))
-      (IsPermutation-trans _ _ _ (IsPermutation-append_right (f z) _ _ (flat_map-set l j x d (omega (arith, inside)))) (permutation-fronts (f z) (f (get_or l j d)) (flat_map f (set l j x))))
+      (IsPermutation-trans _ _ _ (IsPermutation-append_right (f z) _ _ (flat_map-set l j x d (omega (arith, inside))))
+          (permutation-fronts (f z) (f (get_or l j d)) (flat_map f (set l j x))))
 
-  flat_map-exchanged : (l : List A) (i j : ℕ) (d : A) → i < length l → j < length l → IsPermutation (flat_map f l) (flat_map f (set (set l i (get_or l j d)) j (get_or l i d)))
+  flat_map-exchanged : (l : List A) (i j : ℕ) (d : A) → i < length l → j < length l
+      → IsPermutation (flat_map f l) (flat_map f (set (set l i (get_or l j d)) j (get_or l i d)))
   flat_map-exchanged [] i j d p q = absurd (omega (arith, p))
   flat_map-exchanged (x ∷ l) zero zero d p q = IsPermutation-refl (flat_map f (x ∷ l))
   flat_map-exchanged (x ∷ l) zero (suc j) d p q = flat_map-set l j x d (omega (arith, q))
@@ -32,7 +34,8 @@ module _ {A B : Type 0} (f : A → List B) where
 
   -- the pieces of the items
   pub permutation-flat_map : (xs ys : List A) → IsPermutation xs ys → IsPermutation (flat_map f xs) (flat_map f ys)
-  permutation-flat_map xs ys moved = IsPermutation-keeps xs (λ l. IsPermutation (flat_map f xs) (flat_map f l)) (IsPermutation-refl (flat_map f xs)) (λ l i j p q h. IsPermutation-trans _ _ _ h (flat_map-swap l i j p q)) ys moved
+  permutation-flat_map xs ys moved = IsPermutation-keeps xs (λ l. IsPermutation (flat_map f xs) (flat_map f l)) (IsPermutation-refl (flat_map f xs))
+      (λ l i j p q h. IsPermutation-trans _ _ _ h (flat_map-swap l i j p q)) ys moved
 
   -- pieces of the same items each
   pub permutation-pieces : (g : A → List B) → ((a : A) → IsPermutation (f a) (g a)) → (xs : List A) → IsPermutation (flat_map f xs) (flat_map g xs)
@@ -52,7 +55,8 @@ module _ {A : Type 0} (p : A → Bool) where
   pub permutation-filter : (xs ys : List A) → IsPermutation xs ys → IsPermutation (filter p xs) (filter p ys)
   permutation-filter xs ys moved =
       subst (λ l. IsPermutation l (filter p ys)) (sym (filter-pieces xs))
-      (subst (IsPermutation (flat_map (λ x. cond (p x) (x ∷ []) []) xs)) (sym (filter-pieces ys)) (permutation-flat_map (λ x. cond (p x) (x ∷ []) []) xs ys moved))
+      (subst (IsPermutation (flat_map (λ x. cond (p x) (x ∷ []) []) xs)) (sym (filter-pieces ys))
+          (permutation-flat_map (λ x. cond (p x) (x ∷ []) []) xs ys moved))
 
 module _ {A B : Type 0} (h : A → Option B) where
   piece : Option B → List B

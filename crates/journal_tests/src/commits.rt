@@ -14,7 +14,8 @@ use std::test::Fail;
 /// the pages without this one or with it.
 fn commit_page<D: Disk>(alloc: Global, disk: &mut D, page: &[u8; 512]) -> Result<(), Memory>
     requires size { D.size_of disk.old ≡ 512 * 90 }
-    ensures any_moment { IsTrue (D.is_known disk.old) → IsTrue (D.knows_crashes disk.old) → IsDurable (D.image disk.old) (D.crash_states disk.old) → (marks : List ℕ) (home : ℕ → List ℕ)
+    ensures any_moment { IsTrue (D.is_known disk.old) → IsTrue (D.knows_crashes disk.old) → IsDurable (D.image disk.old) (D.crash_states disk.old)
+        → (marks : List ℕ) (home : ℕ → List ℕ)
         → RecoversTo 90 (D.image disk.old) marks home → has_open_gate (D.image disk.old) ≡ false
         → CrashesLeaveOnly D.moment D.crash_states_since disk.old disk.new (IsBeforeOrAfter 90 ((86, page.now) ∷ []) marks home) }
 {

@@ -12,7 +12,8 @@ pub record Steps (x y passed others common : ℕ) : Type 0 where
   pub greater : y < x → (passed ≡ 0) × (others ≡ 1) × (common ≡ 0)
   pub equal : x ≡ y → (passed ≡ 1) × (others ≡ 1) × (common ≡ 1)
 
-pub steps : (x y passed others common : ℕ) → passed ≡ from_bool (nat_le x y) → others ≡ from_bool (nat_le y x) → common ≡ from_bool (x == y) → Steps x y passed others common
+pub steps : (x y passed others common : ℕ) → passed ≡ from_bool (nat_le x y) → others ≡ from_bool (nat_le y x) → common ≡ from_bool (x == y)
+    → Steps x y passed others common
 steps x y passed others common p o e = record {
   less = λ h. (grind (arith, nat_tests), grind (arith, nat_tests), grind (arith, nat_tests));
   greater = λ h. (grind (arith, nat_tests), grind (arith, nat_tests), grind (arith, nat_tests));
@@ -29,10 +30,13 @@ pub record Counted (passed others common : ℕ) : Type 0 where
 
 pub counted : (x y passed others common : ℕ) → Steps x y passed others common → Counted passed others common
 counted x y passed others common s = elim (cases_eq x y) [
-  | inl same ↦ let e = s.equal same in record { one = omega arith; one_other = omega arith; within = omega arith; within_others = omega arith; some = omega arith }
+  | inl same ↦ let e = s.equal same in record { one = omega arith; one_other = omega arith; within = omega arith; within_others = omega arith;
+      some = omega arith }
   | inr other ↦ elim (cases_lt x y) [
-    | inl low ↦ let e = s.less low in record { one = omega arith; one_other = omega arith; within = omega arith; within_others = omega arith; some = omega arith }
-    | inr high ↦ let e = s.greater (grind arith) in record { one = omega arith; one_other = omega arith; within = omega arith; within_others = omega arith; some = omega arith }
+    | inl low ↦ let e = s.less low in record { one = omega arith; one_other = omega arith; within = omega arith; within_others = omega arith;
+        some = omega arith }
+    | inr high ↦ let e = s.greater (grind arith) in
+        record { one = omega arith; one_other = omega arith; within = omega arith; within_others = omega arith; some = omega arith }
   ]
 ]
 

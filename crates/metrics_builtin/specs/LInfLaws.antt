@@ -83,5 +83,6 @@ linf_metric dim most small = record {
     symmetric = λ a b v w. linf_dist-comm (components a) (components b) (same_length dim most a b v w);
     triangle = λ a b c v w x. linf_dist-triangle (components a) (components b) (components c) (same_length dim most a b v w) (same_length dim most b c w x);
   };
-  bounded = λ a b v w. linf_dist-le most (components a) (components b) (same_length dim most a b v w) (All-components-IsVector dim most a small v) (All-components-IsVector dim most b small w);
+  bounded = λ a b v w. linf_dist-le most (components a) (components b) (same_length dim most a b v w) (All-components-IsVector dim most a small v)
+      (All-components-IsVector dim most b small w);
 }

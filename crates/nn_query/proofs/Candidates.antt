@@ -28,12 +28,14 @@ pub candidates_for-none : (asked : List ℕ) (place : ℕ) → candidates_for as
 unfolding candidates_for
 candidates_for-none asked place = refl
 
-candidates_for-last : (asked : List ℕ) (n m : ℕ) (rows : List vector_row.Row) (row : vector_row.Row) → n + length rows ≡ m → candidates_for asked n (rows ++ row ∷ []) ≡ candidates_for asked n rows ++ candidate_for asked m row ∷ []
+candidates_for-last : (asked : List ℕ) (n m : ℕ) (rows : List vector_row.Row) (row : vector_row.Row) → n + length rows ≡ m
+    → candidates_for asked n (rows ++ row ∷ []) ≡ candidates_for asked n rows ++ candidate_for asked m row ∷ []
 unfolding candidates_for
 candidates_for-last asked n m [] row is = ap (λ (place : ℕ). candidate_for asked place row ∷ []) (let e : n ≡ m = omega (arith, is) in e)
 candidates_for-last asked n m (r ∷ rows) row is = ap (λ rest. candidate_for asked n r ∷ rest) (candidates_for-last asked (n + 1) m rows row (omega (arith, is)))
 
-pub candidates_for-more : (asked : List ℕ) (rows : List vector_row.Row) (i bound : ℕ) (row : vector_row.Row) → i < length rows → row ≡ get_or rows i row → bound ≡ lower_bound asked row.vect
+pub candidates_for-more : (asked : List ℕ) (rows : List vector_row.Row) (i bound : ℕ) (row : vector_row.Row) → i < length rows → row ≡ get_or rows i row
+    → bound ≡ lower_bound asked row.vect
     → candidates_for asked 0 (take i rows) ++ record { bound = bound; id = row.id; place = i } ∷ [] ≡ candidates_for asked 0 (take (i + 1) rows)
 candidates_for-more asked rows i bound row within at is =
     let long = length-take-le i rows (omega (arith, within)) in
@@ -47,7 +49,9 @@ unfolding candidates_for
 length-candidates_for asked n [] = refl
 length-candidates_for asked n (row ∷ rows) = ap suc (length-candidates_for asked (n + 1) rows)
 
-all-candidates_for : (P : Candidate → Type 0) (asked : List ℕ) (n : ℕ) (rows : List vector_row.Row) → ((k : ℕ) (row : vector_row.Row) → k < length rows → row ≡ get_or rows k row → P (candidate_for asked (k + n) row)) → AllByRecursion P (candidates_for asked n rows)
+all-candidates_for : (P : Candidate → Type 0) (asked : List ℕ) (n : ℕ) (rows : List vector_row.Row)
+    → ((k : ℕ) (row : vector_row.Row) → k < length rows → row ≡ get_or rows k row → P (candidate_for asked (k + n) row))
+    → AllByRecursion P (candidates_for asked n rows)
 unfolding candidates_for
 all-candidates_for P asked n [] each = tt
 all-candidates_for P asked n (row ∷ rows) each = (
@@ -56,7 +60,8 @@ all-candidates_for P asked n (row ∷ rows) each = (
       subst (λ (m : ℕ). P (candidate_for asked m r)) (let e : suc k + n ≡ k + (n + 1) = omega arith in e) (each (suc k) r (omega (arith, below)) at)),
 )
 
-at-candidates_for : (object_at : ℕ → List ℕ) (asked : List ℕ) (n : ℕ) (rows : List vector_row.Row) → ((k : ℕ) (row : vector_row.Row) → k < length rows → row ≡ get_or rows k row → object_at (k + n) ≡ row.object)
+at-candidates_for : (object_at : ℕ → List ℕ) (asked : List ℕ) (n : ℕ) (rows : List vector_row.Row)
+    → ((k : ℕ) (row : vector_row.Row) → k < length rows → row ≡ get_or rows k row → object_at (k + n) ≡ row.object)
     → entries_at object_at (candidates_for asked n rows) ≡ entries_of rows
 unfolding candidates_for
 at-candidates_for object_at asked n [] each = refl
@@ -67,8 +72,10 @@ at-candidates_for object_at asked n (row ∷ rows) each =
     ap (λ (o : List ℕ). (row.id, o) ∷ entries_at object_at (candidates_for asked (n + 1) rows)) first ∙ ap (λ es. entry_of row ∷ es) rest
 
 -- the object of the row at a place
-pub object-is : (rows : List vector_row.Row) (place : ℕ) (row : vector_row.Row) → place < length rows → row ≡ get_or rows place row → object_at_place rows place ≡ row.object
-object-is rows place row within at = ap (λ (r : vector_row.Row). r.object) (get_or_default rows place (record { id = 0; object = []; vect = [] }) row within ∙ sym at)
+pub object-is : (rows : List vector_row.Row) (place : ℕ) (row : vector_row.Row) → place < length rows → row ≡ get_or rows place row
+    → object_at_place rows place ≡ row.object
+object-is rows place row within at = ap (λ (r : vector_row.Row). r.object) (get_or_default rows place (record { id = 0; object = []; vect = [] }) row within
+    ∙ sym at)
 
 -- ---- the candidates of rows
 
@@ -79,22 +86,29 @@ not_less b d i h = grind (arith, nat_tests)
 not_under : (b d i : ℕ) → b ≤ d → goes_before (d, i) (b, i) ≡ false
 not_under b d i h = goes_before-is (d, i) (b, i) ∙ not_less b d i h
 
-pub whole-list : (asked : List ℕ) (rows : List vector_row.Row) (cs : List Candidate) → IsPermutation (candidates_for asked 0 rows) cs → IsPermutation (entries_of rows) (entries_at (object_at_place rows) cs)
+pub whole-list : (asked : List ℕ) (rows : List vector_row.Row) (cs : List Candidate) → IsPermutation (candidates_for asked 0 rows) cs
+    → IsPermutation (entries_of rows) (entries_at (object_at_place rows) cs)
 whole-list asked rows cs moved =
     subst (λ es. IsPermutation es (entries_at (object_at_place rows) cs)) (at-candidates_for (object_at_place rows) asked 0 rows (λ k row below at.
-    subst (λ (m : ℕ). object_at_place rows m ≡ row.object) (let e : k ≡ k + 0 = omega arith in e) (object-is rows k row below at))) (IsPermutation-map (entry_at (object_at_place rows)) _ cs moved)
+    subst (λ (m : ℕ). object_at_place rows m ≡ row.object) (let e : k ≡ k + 0 = omega arith in e) (object-is rows k row below at)))
+        (IsPermutation-map (entry_at (object_at_place rows)) _ cs moved)
 
-each-candidates_for : (P : Candidate → Type 0) (asked : List ℕ) (rows : List vector_row.Row) → ((k : ℕ) (row : vector_row.Row) → k < length rows → row ≡ get_or rows k row → P (candidate_for asked k row)) → AllByRecursion P (candidates_for asked 0 rows)
-each-candidates_for P asked rows each = all-candidates_for P asked 0 rows (λ k row below at. subst (λ (m : ℕ). P (candidate_for asked m row)) (let e : k ≡ k + 0 = omega arith in e) (each k row below at))
+each-candidates_for : (P : Candidate → Type 0) (asked : List ℕ) (rows : List vector_row.Row)
+    → ((k : ℕ) (row : vector_row.Row) → k < length rows → row ≡ get_or rows k row → P (candidate_for asked k row))
+    → AllByRecursion P (candidates_for asked 0 rows)
+each-candidates_for P asked rows each = all-candidates_for P asked 0 rows
+    (λ k row below at. subst (λ (m : ℕ). P (candidate_for asked m row)) (let e : k ≡ k + 0 = omega arith in e) (each k row below at))
 
 -- rows with different ids have different bounds with ids
-pub apart : (dist : List ℕ → List ℕ → ℕ) (pivots : List (List ℕ)) (query : List ℕ) (rows : List vector_row.Row) → AllPairs (λ (a b : vector_row.Row). a.id ≢ b.id) rows → HasDistinctKeys (rank_bound dist pivots query) (entries_of rows)
+pub apart : (dist : List ℕ → List ℕ → ℕ) (pivots : List (List ℕ)) (query : List ℕ) (rows : List vector_row.Row)
+    → AllPairs (λ (a b : vector_row.Row). a.id ≢ b.id) rows → HasDistinctKeys (rank_bound dist pivots query) (entries_of rows)
 apart dist pivots query rows ids i j d less below same =
     let none : vector_row.Row = record { id = 0; object = []; vect = [] } in
     let long = length-map rows entry_of in
     let inside : j < length rows = omega (arith, below, long) in
     ids i j none less inside
-    (ap (λ (e : Entry). e.0) (sym (get_or-map entry_of rows i none d (omega (arith, less, inside)))) ∙ ap (λ (b : ℕ × ℕ). b.1) same ∙ ap (λ (e : Entry). e.0) (get_or-map entry_of rows j none d inside))
+    (ap (λ (e : Entry). e.0) (sym (get_or-map entry_of rows i none d (omega (arith, less, inside)))) ∙ ap (λ (b : ℕ × ℕ). b.1) same
+        ∙ ap (λ (e : Entry). e.0) (get_or-map entry_of rows j none d inside))
 
 -- ---- rows in the queue
 
@@ -109,7 +123,8 @@ weight-rows (c ∷ cs) = let a = sum_by-cons (weight_of empty_nodes) (as_waiting
 module _ (asked : List ℕ) (rows : List vector_row.Row) (items : List Waiting) (moved : IsPermutation (map as_waiting (candidates_for asked 0 rows)) items) where
   -- the candidates are under them
   candidates_under-items : IsPermutation (candidates_for asked 0 rows) (flat_map (candidates_under empty_nodes) items)
-  candidates_under-items = subst (λ cs. IsPermutation cs (flat_map (candidates_under empty_nodes) items)) (candidates_under-rows (candidates_for asked 0 rows)) (permutation-flat_map (candidates_under empty_nodes) (map as_waiting (candidates_for asked 0 rows)) items moved)
+  candidates_under-items = subst (λ cs. IsPermutation cs (flat_map (candidates_under empty_nodes) items)) (candidates_under-rows (candidates_for asked 0 rows))
+      (permutation-flat_map (candidates_under empty_nodes) (map as_waiting (candidates_for asked 0 rows)) items moved)
 
   pub in-order : IsPermutation (candidates_for asked 0 rows) (queued_candidates empty_nodes items)
   in-order = IsPermutation-trans _ _ _ candidates_under-items (permutation-sorted_by candidate_is_before (flat_map (candidates_under empty_nodes) items))
@@ -119,19 +134,22 @@ module _ (asked : List ℕ) (rows : List vector_row.Row) (items : List Waiting) 
 
   -- each has its row
   pub have-rows : AllByRecursion (CanVisit (λ level place. Unit {0}) (λ place. place < length rows)) items
-  have-rows = all-moved _ _ items moved (all-map (CanVisit (λ level place. Unit {0}) (λ place. place < length rows)) as_waiting (candidates_for asked 0 rows) (each-candidates_for (λ (c : Candidate). c.place < length rows) asked rows (λ k row below at. below)))
+  have-rows = all-moved _ _ items moved (all-map (CanVisit (λ level place. Unit {0}) (λ place. place < length rows)) as_waiting (candidates_for asked 0 rows)
+      (each-candidates_for (λ (c : Candidate). c.place < length rows) asked rows (λ k row below at. below)))
 
   are-least : (cs : List Candidate) → AllByRecursion (IsLeast empty_nodes (λ level place. Unit {0})) (map as_waiting cs)
   are-least [] = tt
   are-least (c ∷ cs) = (record { objects = (omega arith, tt); bounds = tt; sound = tt }, are-least cs)
 
   -- no bound is too great
-  pub are-bounds : (dist : List ℕ → List ℕ → ℕ) (query : List ℕ) → ((k : ℕ) (row : vector_row.Row) → k < length rows → row ≡ get_or rows k row → lower_bound asked row.vect ≤ dist query row.object)
+  pub are-bounds : (dist : List ℕ → List ℕ → ℕ) (query : List ℕ)
+      → ((k : ℕ) (row : vector_row.Row) → k < length rows → row ≡ get_or rows k row → lower_bound asked row.vect ≤ dist query row.object)
       → AreBounds dist (object_at_place rows) query empty_nodes (λ level place. Unit {0}) items
   are-bounds dist query each = record {
     lower =
         all-moved (λ (c : Candidate). goes_before (dist query (object_at_place rows c.place), c.id) (bound_rank c) ≡ false) _ _ candidates_under-items
-        (each-candidates_for (λ (c : Candidate). goes_before (dist query (object_at_place rows c.place), c.id) (bound_rank c) ≡ false) asked rows (λ k row below at.
+        (each-candidates_for (λ (c : Candidate). goes_before (dist query (object_at_place rows c.place), c.id) (bound_rank c) ≡ false) asked rows
+            (λ k row below at.
         subst (λ (o : List ℕ). goes_before (dist query o, row.id) (lower_bound asked row.vect, row.id) ≡ false) (sym (object-is rows k row below at))
         (not_under (lower_bound asked row.vect) (dist query row.object) row.id (each k row below at))));
     least = all-moved _ _ items moved (are-least (candidates_for asked 0 rows));
@@ -139,20 +157,25 @@ module _ (asked : List ℕ) (rows : List vector_row.Row) (items : List Waiting) 
 
 module _ (dist : List ℕ → List ℕ → ℕ) (pivots : List (List ℕ)) (query : List ℕ) (rows : List vector_row.Row) where
   -- the key of a candidate is the bound of its row
-  pub keys-are : (cs : List Candidate) → IsPermutation (candidates_for (vector_of dist pivots query) 0 rows) cs → All (λ (row : vector_row.Row). row.vect ≡ cells_of dist pivots row.object) rows
+  pub keys-are : (cs : List Candidate) → IsPermutation (candidates_for (vector_of dist pivots query) 0 rows) cs
+      → All (λ (row : vector_row.Row). row.vect ≡ cells_of dist pivots row.object) rows
       → All (λ (c : Candidate). bound_rank c ≡ rank_bound dist pivots query (entry_at (object_at_place rows) c)) cs
   keys-are cs moved vects =
       let asked = vector_of dist pivots query in
       All-from_recursion _ cs (all-moved (λ (c : Candidate). bound_rank c ≡ rank_bound dist pivots query (entry_at (object_at_place rows) c)) _ cs moved
       (each-candidates_for (λ (c : Candidate). bound_rank c ≡ rank_bound dist pivots query (entry_at (object_at_place rows) c)) asked rows (λ k row below at.
-      let vect : row.vect ≡ cells_of dist pivots row.object = subst (λ (r : vector_row.Row). r.vect ≡ cells_of dist pivots r.object) (sym at) (vects k row below) in
-      let key : ◌≡◌ {A = ℕ × ℕ} (lower_bound asked row.vect, row.id) (rank_bound dist pivots query (entry_of row)) = ap (λ v. (lower_bound asked v, row.id)) vect in
+      let vect : row.vect ≡ cells_of dist pivots row.object =
+          subst (λ (r : vector_row.Row). r.vect ≡ cells_of dist pivots r.object) (sym at) (vects k row below) in
+      let key : ◌≡◌ {A = ℕ × ℕ} (lower_bound asked row.vect, row.id) (rank_bound dist pivots query (entry_of row)) =
+          ap (λ v. (lower_bound asked v, row.id)) vect in
       key ∙ ap (λ (o : List ℕ). rank_bound dist pivots query (row.id, o)) (sym (object-is rows k row below at)))))
 
   -- the bounds are those that the pivots set
-  pub bounds-are : (admitted : List ℕ → Type 0) → All (λ (row : vector_row.Row). row.vect ≡ cells_of dist pivots row.object) rows → All (λ (row : vector_row.Row). admitted row.object) rows → admitted query → BoundsHold admitted dist pivots
+  pub bounds-are : (admitted : List ℕ → Type 0) → All (λ (row : vector_row.Row). row.vect ≡ cells_of dist pivots row.object) rows
+      → All (λ (row : vector_row.Row). admitted row.object) rows → admitted query → BoundsHold admitted dist pivots
       → (k : ℕ) (row : vector_row.Row) → k < length rows → row ≡ get_or rows k row → lower_bound (vector_of dist pivots query) row.vect ≤ dist query row.object
   bounds-are admitted vects objects asks holds k row below at =
-      let vect : row.vect ≡ cells_of dist pivots row.object = subst (λ (r : vector_row.Row). r.vect ≡ cells_of dist pivots r.object) (sym at) (vects k row below) in
+      let vect : row.vect ≡ cells_of dist pivots row.object =
+          subst (λ (r : vector_row.Row). r.vect ≡ cells_of dist pivots r.object) (sym at) (vects k row below) in
       let object : admitted row.object = subst (λ (r : vector_row.Row). admitted r.object) (sym at) (objects k row below) in
       subst (λ v. lower_bound (vector_of dist pivots query) v ≤ dist query row.object) (sym vect) (holds.bound_below query row.object asks object)

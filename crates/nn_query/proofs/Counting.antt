@@ -56,7 +56,8 @@ count_before-none r [] all = refl
 count_before-none r (x ∷ xs) all = count_before-other r x xs all.0 ∙ count_before-none r xs all.1
 
 -- if an item doesn't go before the rank, none after it does
-pub further : (r y : Pair) (ys : List Pair) → goes_before y r ≡ false → AllByRecursion (λ (z : Pair). goes_before z y ≡ false) ys → AllByRecursion (λ (z : Pair). goes_before z r ≡ false) ys
+pub further : (r y : Pair) (ys : List Pair) → goes_before y r ≡ false → AllByRecursion (λ (z : Pair). goes_before z y ≡ false) ys
+    → AllByRecursion (λ (z : Pair). goes_before z r ≡ false) ys
 further r y [] h all = tt
 further r y (z ∷ zs) h all = (order.chain z y r all.0 h, further r y zs h all.1)
 
@@ -101,17 +102,21 @@ take-with_inserted : (r : Pair) (k : ℕ) (zs : List Pair) → InOrder zs → k 
 take-with_inserted r zero zs up many = refl
 take-with_inserted r (suc k) [] up many = absurd (omega (arith, many))
 take-with_inserted r (suc k) (y ∷ ys) up many = step (goes_before y r) refl (take-with_inserted r k ys up.1) where
-  step : (b : Bool) → goes_before y r ≡ b → (k ≤ count_before r ys → take k (with_inserted goes_before r ys) ≡ take k ys) → take (suc k) (if b then y ∷ with_inserted goes_before r ys else r ∷ y ∷ ys) ≡ y ∷ take k ys
+  step : (b : Bool) → goes_before y r ≡ b → (k ≤ count_before r ys → take k (with_inserted goes_before r ys) ≡ take k ys)
+      → take (suc k) (if b then y ∷ with_inserted goes_before r ys else r ∷ y ∷ ys) ≡ y ∷ take k ys
   step true is rest = ap (λ zs. y ∷ zs) (rest (let a = count_before-one r y ys is in omega (arith, a, many)))
   step false is rest = absurd (let a = none-behind r y ys is up.0 in omega (arith, a, many))
 
-pub take-far : (k : ℕ) (xs ys : List Pair) → AllByRecursion (λ (r : Pair). k ≤ count_before r xs) ys → take k (sorted_by goes_before (xs ++ ys)) ≡ take k (sorted_by goes_before xs)
+pub take-far : (k : ℕ) (xs ys : List Pair) → AllByRecursion (λ (r : Pair). k ≤ count_before r xs) ys
+    → take k (sorted_by goes_before (xs ++ ys)) ≡ take k (sorted_by goes_before xs)
 unfolding sorted_by
 take-far k xs ys all = ap (take k) (sym (swapped xs ys)) ∙ in_front ys all where
-  in_front : (ys : List Pair) → AllByRecursion (λ (r : Pair). k ≤ count_before r xs) ys → take k (sorted_by goes_before (ys ++ xs)) ≡ take k (sorted_by goes_before xs)
+  in_front : (ys : List Pair) → AllByRecursion (λ (r : Pair). k ≤ count_before r xs) ys
+      → take k (sorted_by goes_before (ys ++ xs)) ≡ take k (sorted_by goes_before xs)
   in_front [] all = refl
   in_front (y ∷ ys) all =
-      let many : k ≤ count_before y (sorted_by goes_before (ys ++ xs)) = (let a = count_before-sorted_by y (ys ++ xs) in let b = count_before-append y ys xs in omega (arith, a, b, all.0)) in
+      let many : k ≤ count_before y (sorted_by goes_before (ys ++ xs)) =
+          (let a = count_before-sorted_by y (ys ++ xs) in let b = count_before-append y ys xs in omega (arith, a, b, all.0)) in
       take-with_inserted y k (sorted_by goes_before (ys ++ xs)) (in_order-sorted_by (ys ++ xs)) many ∙ in_front ys all.1
 
 once : (k : ℕ) (y : Pair) (ys : List Pair) → take k (y ∷ take k ys) ≡ take k (y ∷ ys)
@@ -127,7 +132,9 @@ pub with_inserted-take : (r : Pair) (k : ℕ) (zs : List Pair) → take k (with_
 with_inserted-take r zero zs = refl
 with_inserted-take r (suc k) [] = refl
 with_inserted-take r (suc k) (y ∷ ys) = step (goes_before y r) (with_inserted-take r k ys) where
-  step : (b : Bool) → take k (with_inserted goes_before r (take k ys)) ≡ take k (with_inserted goes_before r ys) → take (suc k) (if b then y ∷ with_inserted goes_before r (take k ys) else r ∷ y ∷ take k ys) ≡ take (suc k) (if b then y ∷ with_inserted goes_before r ys else r ∷ y ∷ ys)
+  step : (b : Bool) → take k (with_inserted goes_before r (take k ys)) ≡ take k (with_inserted goes_before r ys)
+      → take (suc k) (if b then y ∷ with_inserted goes_before r (take k ys) else r ∷ y ∷ take k ys)
+      ≡ take (suc k) (if b then y ∷ with_inserted goes_before r ys else r ∷ y ∷ ys)
   step true rest = ap (λ zs. y ∷ zs) rest
   step false rest = ap (λ zs. r ∷ zs) (once k y ys)
 
@@ -149,8 +156,10 @@ count_before-take r (suc k) (y ∷ ys) up = step (goes_before y r) refl (count_b
   front (suc k) P [] all = tt
   front (suc k) P (z ∷ zs) all = (all.0, front k P zs all.1)
 
-  step : (b : Bool) → goes_before y r ≡ b → nat_le k (count_before r (take k ys)) ≡ nat_le k (count_before r ys) → nat_le (suc k) (count_before r (y ∷ take k ys)) ≡ nat_le (suc k) (count_before r (y ∷ ys))
-  step true is rest = one_less k (count_before r (take k ys)) _ (count_before-one r y (take k ys) is) ∙ rest ∙ sym (one_less k (count_before r ys) _ (count_before-one r y ys is))
+  step : (b : Bool) → goes_before y r ≡ b → nat_le k (count_before r (take k ys)) ≡ nat_le k (count_before r ys)
+      → nat_le (suc k) (count_before r (y ∷ take k ys)) ≡ nat_le (suc k) (count_before r (y ∷ ys))
+  step true is rest = one_less k (count_before r (take k ys)) _ (count_before-one r y (take k ys) is) ∙ rest
+      ∙ sym (one_less k (count_before r ys) _ (count_before-one r y ys is))
   step false is rest = both_none k _ _ (none-behind r y (take k ys) is (front k (λ (z : Pair). goes_before z y ≡ false) ys up.0)) (none-behind r y ys is up.0)
 
 -- ---- the k-th
@@ -184,7 +193,8 @@ past-is r (suc k) (y ∷ ys) up = past-is r k ys up.1 ∙ step (goes_before y r)
 -- ---- a heap of the first k
 
 -- one more, if there is room
-pub put-few : (k : ℕ) (r : Pair) (old new : List Pair) → IsPermutation (r ∷ old) new → length new ≤ k → sorted_by goes_before new ≡ take k (with_inserted goes_before r (sorted_by goes_before old))
+pub put-few : (k : ℕ) (r : Pair) (old new : List Pair) → IsPermutation (r ∷ old) new → length new ≤ k
+    → sorted_by goes_before new ≡ take k (with_inserted goes_before r (sorted_by goes_before old))
 unfolding sorted_by
 put-few k r old new moved few =
     let is = sorted_by-permuted (r ∷ old) new moved in
@@ -192,20 +202,25 @@ put-few k r old new moved few =
     is ∙ sym (ap (take k) (sym is) ∙ take_all k (sorted_by goes_before new) (omega (arith, long, few)) ∙ is)
 
 -- one more that is pruned changes nothing
-pub put-shut : (k : ℕ) (r : Pair) (xs : List Pair) → length xs ≤ k → k ≤ count_before r (sorted_by goes_before xs) → sorted_by goes_before xs ≡ take k (with_inserted goes_before r (sorted_by goes_before xs))
+pub put-shut : (k : ℕ) (r : Pair) (xs : List Pair) → length xs ≤ k → k ≤ count_before r (sorted_by goes_before xs)
+    → sorted_by goes_before xs ≡ take k (with_inserted goes_before r (sorted_by goes_before xs))
 put-shut k r xs few many =
     let long = laws.sorted_by-length goes_before xs in
     sym (take-with_inserted r k (sorted_by goes_before xs) (in_order-sorted_by xs) many ∙ take_all k (sorted_by goes_before xs) (omega (arith, long, few)))
 
 -- one more, and the greatest taken out
-pub put-many : (k : ℕ) (r greatest : Pair) (old amid new : List Pair) → IsPermutation (r ∷ old) amid → IsPermutation amid (greatest ∷ new) → AllByRecursion (λ (y : Pair). goes_before greatest y ≡ false) new → length new ≡ k
+pub put-many : (k : ℕ) (r greatest : Pair) (old amid new : List Pair) → IsPermutation (r ∷ old) amid → IsPermutation amid (greatest ∷ new)
+    → AllByRecursion (λ (y : Pair). goes_before greatest y ≡ false) new → length new ≡ k
     → sorted_by goes_before new ≡ take k (with_inserted goes_before r (sorted_by goes_before old))
 unfolding sorted_by
 put-many k r greatest old amid new first second below long =
-    let last : sorted_by goes_before (new ++ greatest ∷ []) ≡ sorted_by goes_before new ++ greatest ∷ [] = laws.sorted_by-append goes_before laws.pair_order new (greatest ∷ []) (behind new below) in
+    let last : sorted_by goes_before (new ++ greatest ∷ []) ≡ sorted_by goes_before new ++ greatest ∷ [] =
+        laws.sorted_by-append goes_before laws.pair_order new (greatest ∷ []) (behind new below) in
     let whole : with_inserted goes_before r (sorted_by goes_before old) ≡ sorted_by goes_before new ++ greatest ∷ [] =
-    sym (sorted_by-permuted (r ∷ old) amid first) ∙ sym (sorted_by-permuted amid (greatest ∷ new) second) ∙ sorted_by-permuted (new ++ greatest ∷ []) (greatest ∷ new) (IsPermutation-to_front new greatest) ∙ last in
-    sym (ap (take k) whole ∙ ap (λ n. take n (sorted_by goes_before new ++ greatest ∷ [])) (sym (laws.sorted_by-length goes_before new ∙ long)) ∙ take-append_seam (sorted_by goes_before new) (greatest ∷ []))
+    sym (sorted_by-permuted (r ∷ old) amid first) ∙ sym (sorted_by-permuted amid (greatest ∷ new) second)
+        ∙ sorted_by-permuted (new ++ greatest ∷ []) (greatest ∷ new) (IsPermutation-to_front new greatest) ∙ last in
+    sym (ap (take k) whole ∙ ap (λ n. take n (sorted_by goes_before new ++ greatest ∷ [])) (sym (laws.sorted_by-length goes_before new ∙ long))
+        ∙ take-append_seam (sorted_by goes_before new) (greatest ∷ []))
   where
     behind : (xs : List Pair) → AllByRecursion (λ (y : Pair). goes_before greatest y ≡ false) xs → laws.AreAllAfter goes_before xs (greatest ∷ [])
     behind [] all = tt
@@ -220,7 +235,8 @@ open-few k r xs few =
     under : (c : ℕ) → c < k → false ≡ nat_le k c
     under c h = grind (arith, nat_tests)
 
-all-count_before : (greatest r : Pair) (xs : List Pair) → goes_before greatest r ≡ true → AllByRecursion (λ (y : Pair). goes_before greatest y ≡ false) xs → count_before r xs ≡ length xs
+all-count_before : (greatest r : Pair) (xs : List Pair) → goes_before greatest r ≡ true → AllByRecursion (λ (y : Pair). goes_before greatest y ≡ false) xs
+    → count_before r xs ≡ length xs
 all-count_before greatest r [] is below = refl
 all-count_before greatest r (x ∷ xs) is below = step (goes_before x r) refl (all-count_before greatest r xs is below.1) where
   step : (b : Bool) → goes_before x r ≡ b → count_before r xs ≡ length xs → count_before r (x ∷ xs) ≡ suc (length xs)
@@ -228,7 +244,8 @@ all-count_before greatest r (x ∷ xs) is below = step (goes_before x r) refl (a
   step false at rest = absurd (differ (sym is ∙ order.chain greatest x r below.0 at))
 
 -- once there is no room, the greatest decides
-pub open-many : (k : ℕ) (greatest r : Pair) (xs : List Pair) → length xs ≡ k → 0 < k → greatest ≡ slice_index_or xs 0 greatest → AllByRecursion (λ (y : Pair). goes_before greatest y ≡ false) xs
+pub open-many : (k : ℕ) (greatest r : Pair) (xs : List Pair) → length xs ≡ k → 0 < k → greatest ≡ slice_index_or xs 0 greatest
+    → AllByRecursion (λ (y : Pair). goes_before greatest y ≡ false) xs
     → goes_before greatest r ≡ nat_le k (count_before r (sorted_by goes_before xs))
 open-many k greatest r [] long some at below = absurd (omega (arith, long, some))
 open-many k greatest r (x ∷ xs) long some at below = step (goes_before greatest r) refl where
@@ -249,12 +266,15 @@ open-many k greatest r (x ∷ xs) long some at below = step (goes_before greates
       is ∙ under _ (let c = same in omega (arith, a, b, c, long))
 
 -- what `pop` leaves
-pub popped : (k : ℕ) (r : Pair) (old amid new : List Pair) (top : Option Pair) (heaped : Type 0) → IsPermutation (r ∷ old) amid → IfSome top (λ (x : Pair). IsPermutation amid (x ∷ new)) → heaped
-    → IfSome top (λ (x : Pair). heaped → AllByRecursion (λ (y : Pair). goes_before x y ≡ false) new) → IfNone top (length amid ≡ 0) → length old ≤ k → k < length amid
+pub popped : (k : ℕ) (r : Pair) (old amid new : List Pair) (top : Option Pair) (heaped : Type 0) → IsPermutation (r ∷ old) amid
+    → IfSome top (λ (x : Pair). IsPermutation amid (x ∷ new)) → heaped
+    → IfSome top (λ (x : Pair). heaped → AllByRecursion (λ (y : Pair). goes_before x y ≡ false) new) → IfNone top (length amid ≡ 0) → length old ≤ k
+        → k < length amid
     → sorted_by goes_before new ≡ take k (with_inserted goes_before r (sorted_by goes_before old))
 popped k r old amid new None heaped first second is below none few many = absurd (omega (arith, many, none))
 popped k r old amid new (Some x) heaped first second is below none few many =
-    put-many k r x old amid new first second (below is) (let a = length_permutation _ _ first in let b = length_permutation _ _ second in omega (arith, a, b, few, many))
+    put-many k r x old amid new first second (below is) (let a = length_permutation _ _ first in let b = length_permutation _ _ second in
+        omega (arith, a, b, few, many))
 
 pub none_left : (top : Option Pair) (n m : ℕ) → n ≡ m → IfNone top (m ≡ 0) → IfNone top (n ≡ 0)
 none_left None n m same h = same ∙ h

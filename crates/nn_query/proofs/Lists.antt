@@ -37,9 +37,11 @@ all-map P f [] h = tt
 all-map P f (x ∷ xs) h = (h.0, all-map P f xs h.1)
 
 -- what holds of each piece of an item
-pub all-pieces : {A B : Type 0} (P : A → Type 0) (Q : B → Type 0) (f : A → List B) → ((a : A) → P a → AllByRecursion Q (f a)) → (xs : List A) → AllByRecursion P xs → AllByRecursion Q (flat_map f xs)
+pub all-pieces : {A B : Type 0} (P : A → Type 0) (Q : B → Type 0) (f : A → List B) → ((a : A) → P a → AllByRecursion Q (f a)) → (xs : List A)
+    → AllByRecursion P xs → AllByRecursion Q (flat_map f xs)
 all-pieces P Q f each [] h = tt
-all-pieces P Q f each (x ∷ xs) h = subst (AllByRecursion Q) (sym (flat_map-cons f x xs)) (all-append Q (f x) (flat_map f xs) (each x h.0) (all-pieces P Q f each xs h.1))
+all-pieces P Q f each (x ∷ xs) h = subst (AllByRecursion Q) (sym (flat_map-cons f x xs))
+    (all-append Q (f x) (flat_map f xs) (each x h.0) (all-pieces P Q f each xs h.1))
 
 pub all-moved : {A : Type 0} (P : A → Type 0) (xs ys : List A) → IsPermutation xs ys → AllByRecursion P xs → AllByRecursion P ys
 all-moved P xs ys moved all = recursion_from_All P ys (All-permutation P xs ys moved (All-from_recursion P xs all))

@@ -48,10 +48,13 @@ module _ (dist : List ℕ → List ℕ → ℕ) (object_at : ℕ → List ℕ) (
   ranks-append (x ∷ xs) ys = ap (λ rest. rank_at x ∷ rest) (ranks-append xs ys)
 
   -- one rank more
-  pub seen-more : (cs : List Candidate) (i : ℕ) (c : Candidate) → i < length cs → c ≡ get_or cs i c → ranks_at (take (i + 1) cs) ≡ ranks_at (take i cs) ++ rank_at c ∷ []
-  seen-more cs i c within at = ap ranks_at (take_more cs i c within) ∙ ranks-append (take i cs) (get_or cs i c ∷ []) ∙ ap (λ d. ranks_at (take i cs) ++ rank_at d ∷ []) (sym at)
+  pub seen-more : (cs : List Candidate) (i : ℕ) (c : Candidate) → i < length cs → c ≡ get_or cs i c
+      → ranks_at (take (i + 1) cs) ≡ ranks_at (take i cs) ++ rank_at c ∷ []
+  seen-more cs i c within at = ap ranks_at (take_more cs i c within) ∙ ranks-append (take i cs) (get_or cs i c ∷ [])
+      ∙ ap (λ d. ranks_at (take i cs) ++ rank_at d ∷ []) (sym at)
 
-  pub first-more : (cs : List Candidate) (i : ℕ) (c : Candidate) → i < length cs → c ≡ get_or cs i c → (k : ℕ) (least new : List Pair) → least ≡ take k (sorted_by goes_before (ranks_at (take i cs)))
+  pub first-more : (cs : List Candidate) (i : ℕ) (c : Candidate) → i < length cs → c ≡ get_or cs i c → (k : ℕ) (least new : List Pair)
+      → least ≡ take k (sorted_by goes_before (ranks_at (take i cs)))
       → new ≡ take k (with_inserted goes_before (rank_at c) least) → new ≡ take k (sorted_by goes_before (ranks_at (take (i + 1) cs)))
   first-more cs i c within at k least new is put =
       let seen = ranks_at (take i cs) in
@@ -63,7 +66,8 @@ module _ (dist : List ℕ → List ℕ → ℕ) (object_at : ℕ → List ℕ) (
   objects-more cs i c within at =
       ap (λ (d : Candidate). each_with query (objects_at object_at (take i cs)) ++ (query, object_at d.place) ∷ []) at
       ∙ sym (map-append (λ (o : List ℕ). (query, o)) (objects_at object_at (take i cs)) (object_at (get_or cs i c).place ∷ []))
-      ∙ ap (each_with query) (sym (map-append (λ (x : Candidate). object_at x.place) (take i cs) (get_or cs i c ∷ [])) ∙ ap (objects_at object_at) (sym (take_more cs i c within)))
+      ∙ ap (each_with query) (sym (map-append (λ (x : Candidate). object_at x.place) (take i cs) (get_or cs i c ∷ []))
+          ∙ ap (objects_at object_at) (sym (take_more cs i c within)))
 
   -- ---- what the ranks that were seen decide
 
@@ -78,33 +82,40 @@ module _ (dist : List ℕ → List ℕ → ℕ) (object_at : ℕ → List ℕ) (
     pub no-fewer : (b : Pair) → count_before b seen ≤ count_before b (ranks_at cs)
     no-fewer b = let a = ap (count_before b) whole in let c = count_before-append b seen (ranks_at (drop i cs)) in omega (arith, a, c)
 
-    later : (b : Pair) (xs : List Candidate) → AllByRecursion (λ (c : Candidate). goes_before (bound_rank c) b ≡ false) xs → AllByRecursion (λ (c : Candidate). goes_before (rank_at c) (bound_rank c) ≡ false) xs
+    later : (b : Pair) (xs : List Candidate) → AllByRecursion (λ (c : Candidate). goes_before (bound_rank c) b ≡ false) xs
+        → AllByRecursion (λ (c : Candidate). goes_before (rank_at c) (bound_rank c) ≡ false) xs
         → AllByRecursion (λ (r : Pair). goes_before r b ≡ false) (ranks_at xs)
     later b [] h l = tt
     later b (c ∷ xs) h l = (order.chain (rank_at c) (bound_rank c) b l.0 h.0, later b xs h.1 l.1)
 
     -- and no more, before one that no key of the rest goes before
-    pub no-more : (b : Pair) → AllByRecursion (λ (c : Candidate). goes_before (bound_rank c) b ≡ false) (drop i cs) → count_before b (ranks_at cs) ≡ count_before b seen
+    pub no-more : (b : Pair) → AllByRecursion (λ (c : Candidate). goes_before (bound_rank c) b ≡ false) (drop i cs)
+        → count_before b (ranks_at cs) ≡ count_before b seen
     no-more b keys =
         let none = count_before-none b (ranks_at (drop i cs)) (later b (drop i cs) keys lower) in
         let parts = count_before-append b seen (ranks_at (drop i cs)) in
         let all = ap (count_before b) whole in omega (arith, none, parts, all)
 
     -- the first k decide whether k of them go before
-    pub told : (k : ℕ) (least : List Pair) → least ≡ take k (sorted_by goes_before seen) → (b : Pair) → nat_le k (count_before b least) ≡ nat_le k (count_before b seen)
-    told k least is b = ap (λ rs. nat_le k (count_before b rs)) is ∙ count_before-take b k (sorted_by goes_before seen) (in_order-sorted_by seen) ∙ ap (nat_le k) (count_before-sorted_by b seen)
+    pub told : (k : ℕ) (least : List Pair) → least ≡ take k (sorted_by goes_before seen) → (b : Pair)
+        → nat_le k (count_before b least) ≡ nat_le k (count_before b seen)
+    told k least is b = ap (λ rs. nat_le k (count_before b rs)) is ∙ count_before-take b k (sorted_by goes_before seen) (in_order-sorted_by seen)
+        ∙ ap (nat_le k) (count_before-sorted_by b seen)
 
-    far : (k : ℕ) (xs : List Candidate) → AllByRecursion (λ (c : Candidate). k ≤ count_before (bound_rank c) seen) xs → AllByRecursion (λ (c : Candidate). goes_before (rank_at c) (bound_rank c) ≡ false) xs
+    far : (k : ℕ) (xs : List Candidate) → AllByRecursion (λ (c : Candidate). k ≤ count_before (bound_rank c) seen) xs
+        → AllByRecursion (λ (c : Candidate). goes_before (rank_at c) (bound_rank c) ≡ false) xs
         → AllByRecursion (λ (r : Pair). k ≤ count_before r seen) (ranks_at xs)
     far k [] many l = tt
     far k (c ∷ xs) many l = (let a = count_before-more (bound_rank c) (rank_at c) seen l.0 in let b = many.0 in omega (arith, a, b), far k xs many.1 l.1)
 
     -- each of the rest has k of those seen before its key
-    pub ended : (k : ℕ) (least : List Pair) → i ≤ length cs → least ≡ take k (sorted_by goes_before seen) → All (λ (c : Candidate). count_before (bound_rank c) (ranks_at cs) < k) (take i cs)
+    pub ended : (k : ℕ) (least : List Pair) → i ≤ length cs → least ≡ take k (sorted_by goes_before seen)
+        → All (λ (c : Candidate). count_before (bound_rank c) (ranks_at cs) < k) (take i cs)
         → AllByRecursion (λ (c : Candidate). k ≤ count_before (bound_rank c) seen) (drop i cs) → Visited dist object_at query cs k i least
     ended k least within is all shut = record {
       within = within;
       looked_at = all;
-      left_out = All-from_recursion _ (drop i cs) (all-weaker (λ (c : Candidate). k ≤ count_before (bound_rank c) seen) (λ (c : Candidate). k ≤ count_before (bound_rank c) (ranks_at cs)) (λ c h. let a = no-fewer (bound_rank c) in omega (arith, a, h)) (drop i cs) shut);
+      left_out = All-from_recursion _ (drop i cs) (all-weaker (λ (c : Candidate). k ≤ count_before (bound_rank c) seen)
+          (λ (c : Candidate). k ≤ count_before (bound_rank c) (ranks_at cs)) (λ c h. let a = no-fewer (bound_rank c) in omega (arith, a, h)) (drop i cs) shut);
       first = is ∙ sym (take-far k seen (ranks_at (drop i cs)) (far k (drop i cs) shut lower)) ∙ ap (λ rs. take k (sorted_by goes_before rs)) (sym whole);
     }

@@ -67,7 +67,8 @@ tie (Object id) = id
 abbrev tested4 : ℕ → ℕ → ℕ → ℕ → ℕ → ℕ → ℕ → ℕ → Bool
 tested4 a b c d x y z u = nat_lt a x || ((a == x) && (nat_lt b y || ((b == y) && (nat_lt c z || ((c == z) && nat_lt d u)))))
 
-kind-then : (j k : Kind) (o : Ordering) → is_lt (ordering_then (kind_cmp j k) o) ≡ (nat_lt (rank j) (rank k) || ((rank j == rank k) && (nat_lt (tie j) (tie k) || ((tie j == tie k) && is_lt o))))
+kind-then : (j k : Kind) (o : Ordering) → is_lt (ordering_then (kind_cmp j k) o)
+    ≡ (nat_lt (rank j) (rank k) || ((rank j == rank k) && (nat_lt (tie j) (tie k) || ((tie j == tie k) && is_lt o))))
 kind-then (Node a) (Node b) o = is_lt-then (nat_lt a b) (a == b) o
 kind-then (Node a) (Object b) o = refl
 kind-then (Object a) (Node b) o = refl
@@ -77,7 +78,8 @@ goes-is : (a b : Waiting) → is_visited_before a b ≡ tested4 a.bound (rank a.
 goes-is a b =
     is_lt-then (nat_lt a.bound b.bound) (a.bound == b.bound) _
     ∙ ap (λ t. nat_lt a.bound b.bound || ((a.bound == b.bound) && t)) (kind-then a.kind b.kind (nat_cmp a.place b.place)
-    ∙ ap (λ t. nat_lt (rank a.kind) (rank b.kind) || ((rank a.kind == rank b.kind) && (nat_lt (tie a.kind) (tie b.kind) || ((tie a.kind == tie b.kind) && t)))) (is_lt-last (nat_lt a.place b.place) (a.place == b.place)))
+    ∙ ap (λ t. nat_lt (rank a.kind) (rank b.kind) || ((rank a.kind == rank b.kind) && (nat_lt (tie a.kind) (tie b.kind) || ((tie a.kind == tie b.kind) && t))))
+        (is_lt-last (nat_lt a.place b.place) (a.place == b.place)))
 
 -- ---- candidates
 
@@ -103,7 +105,8 @@ abbrev by_parts : Candidate → Candidate → Ordering
 by_parts a b = ordering_then (nat_cmp a.bound b.bound) (ordering_then (nat_cmp a.id b.id) (nat_cmp a.place b.place))
 
 part_order : IsStrictWeakOrder candidate_is_before
-part_order = ranks_by (then_total (on_total (λ (c : Candidate). c.bound) nat_cmp_total) (then_total (on_total (λ (c : Candidate). c.id) nat_cmp_total) (on_total (λ (c : Candidate). c.place) nat_cmp_total))) (λ (c : Candidate). c)
+part_order = ranks_by (then_total (on_total (λ (c : Candidate). c.bound) nat_cmp_total)
+    (then_total (on_total (λ (c : Candidate). c.id) nat_cmp_total) (on_total (λ (c : Candidate). c.place) nat_cmp_total))) (λ (c : Candidate). c)
 
 chained : (a b c : Candidate) → candidate_is_before a b ≡ true → candidate_is_before b c ≡ true → candidate_is_before a c ≡ true
 chained a b c h k = elim (cases_Bool (candidate_is_before a c)) [
@@ -156,14 +159,17 @@ object_less : (a c d x z u : ℕ) → tested4 a 1 c d x 1 z u ≡ false → test
 object_less a c d x z u h = grind (arith, nat_tests)
 
 -- an object goes first: a node that is left has a greater bound
-pub node-further : (bound level place other id at : ℕ) → is_visited_before (record { bound = bound; kind = Node level; place = place }) (record { bound = other; kind = Object id; place = at }) ≡ false → other < bound
+pub node-further : (bound level place other id at : ℕ)
+    → is_visited_before (record { bound = bound; kind = Node level; place = place }) (record { bound = other; kind = Object id; place = at }) ≡ false
+    → other < bound
 node-further bound level place other id at h =
     let w : Waiting = record { bound = bound; kind = Node level; place = place } in
     let f : Waiting = record { bound = other; kind = Object id; place = at } in
     node_less bound level place other id at (sym (goes-is w f) ∙ h)
 
 -- and no other object comes before it
-pub object-later : (bound id place other next at : ℕ) → is_visited_before (record { bound = bound; kind = Object id; place = place }) (record { bound = other; kind = Object next; place = at }) ≡ false
+pub object-later : (bound id place other next at : ℕ)
+    → is_visited_before (record { bound = bound; kind = Object id; place = place }) (record { bound = other; kind = Object next; place = at }) ≡ false
     → candidate_is_before (record { bound = bound; id = id; place = place }) (record { bound = other; id = next; place = at }) ≡ false
 object-later bound id place other next at h =
     let w : Waiting = record { bound = bound; kind = Object id; place = place } in
@@ -221,7 +227,8 @@ less-or x y h = elim (cases_Bool (goes_before x y)) [
 -- what isn't pruned goes before what is
 pub open-first : (k : ℕ) (ranks : List Pair) (f w : Waiting) → count_before (least_rank f) ranks < k → IsPruned k ranks w → is_visited_before w f ≡ false
 open-first k ranks f w room shut =
-    let less : goes_before (least_rank f) (least_rank w) ≡ true = less-or (least_rank f) (least_rank w) (λ h. let a = count_before-more (least_rank w) (least_rank f) ranks h in omega (arith, a, room, shut)) in
+    let less : goes_before (least_rank f) (least_rank w) ≡ true =
+        less-or (least_rank f) (least_rank w) (λ h. let a = count_before-more (least_rank w) (least_rank f) ranks h in omega (arith, a, room, shut)) in
     goes-is w f ∙ first-test f.bound w.bound f.place w.place f.kind w.kind (sym (goes_before-is (least_rank f) (least_rank w)) ∙ less)
 
 -- ---- the heap
@@ -231,6 +238,7 @@ abbrev pub turned_back : Reverse Waiting → Waiting
 turned_back turned = turned.0
 
 -- none of those that are left goes before the top
-pub top-first : (f : Waiting) (rest : List (Reverse Waiting)) → AllByRecursion (λ (r : Reverse Waiting). is_lt (waiting_order.ghosts.cmp r.0 f) ≡ false) rest → AllByRecursion (λ (w : Waiting). is_visited_before w f ≡ false) (map turned_back rest)
+pub top-first : (f : Waiting) (rest : List (Reverse Waiting)) → AllByRecursion (λ (r : Reverse Waiting). is_lt (waiting_order.ghosts.cmp r.0 f) ≡ false) rest
+    → AllByRecursion (λ (w : Waiting). is_visited_before w f ≡ false) (map turned_back rest)
 top-first f [] all = tt
 top-first f (r ∷ rest) all = (sym (ap is_lt (derived-is r.0 f)) ∙ all.0, top-first f rest all.1)

@@ -44,38 +44,48 @@ at-least c x h = goes_before-is c (x, 0) ∙ at_least c.0 c.1 x h
 -- ---- what is under an item
 
 module _ (nodes : Nodes) where
-  keys-kind : (bound place : ℕ) (k : Kind) → AllByRecursion (λ (c : Candidate). bound ≤ c.bound) (candidates_of_kind nodes bound place k) → AllByRecursion (λ (c : Candidate). goes_before (bound_rank c) (bound, least_id k) ≡ false) (candidates_of_kind nodes bound place k)
-  keys-kind bound place (Node level) all = all-weaker (λ (c : Candidate). bound ≤ c.bound) (λ (c : Candidate). goes_before (bound_rank c) (bound, 0) ≡ false) (λ c h. at-least (bound_rank c) bound h) (nodes.objects level place) all
+  keys-kind : (bound place : ℕ) (k : Kind) → AllByRecursion (λ (c : Candidate). bound ≤ c.bound) (candidates_of_kind nodes bound place k)
+      → AllByRecursion (λ (c : Candidate). goes_before (bound_rank c) (bound, least_id k) ≡ false) (candidates_of_kind nodes bound place k)
+  keys-kind bound place (Node level) all = all-weaker (λ (c : Candidate). bound ≤ c.bound) (λ (c : Candidate). goes_before (bound_rank c) (bound, 0) ≡ false)
+      (λ c h. at-least (bound_rank c) bound h) (nodes.objects level place) all
   keys-kind bound place (Object id) all = (pair_order.never_itself (bound, id), tt)
 
-  bounds-in-kind : (bound place : ℕ) (k : Kind) → AllByRecursion (λ (b : ℕ). bound ≤ b) (bounds_kind nodes bound place k) → AllByRecursion (λ (b : ℕ). goes_before (b, 0) (bound, least_id k) ≡ false) (bounds_kind nodes bound place k)
-  bounds-in-kind bound place (Node level) all = all-weaker (λ (b : ℕ). bound ≤ b) (λ (b : ℕ). goes_before (b, 0) (bound, 0) ≡ false) (λ b h. at-least (b, 0) bound h) (bound ∷ nodes.bounds level place) all
+  bounds-in-kind : (bound place : ℕ) (k : Kind) → AllByRecursion (λ (b : ℕ). bound ≤ b) (bounds_kind nodes bound place k)
+      → AllByRecursion (λ (b : ℕ). goes_before (b, 0) (bound, least_id k) ≡ false) (bounds_kind nodes bound place k)
+  bounds-in-kind bound place (Node level) all = all-weaker (λ (b : ℕ). bound ≤ b) (λ (b : ℕ). goes_before (b, 0) (bound, 0) ≡ false)
+      (λ b h. at-least (b, 0) bound h) (bound ∷ nodes.bounds level place) all
   bounds-in-kind bound place (Object id) all = tt
 
   -- an object that goes first comes before all objects under what is left
-  later-kind : (f : Waiting) (id bound place : ℕ) (k : Kind) → f.kind ≡ Object id → is_visited_before (record { bound = bound; kind = k; place = place }) (record { bound = f.bound; kind = Object id; place = f.place }) ≡ false
+  later-kind : (f : Waiting) (id bound place : ℕ) (k : Kind) → f.kind ≡ Object id
+      → is_visited_before (record { bound = bound; kind = k; place = place }) (record { bound = f.bound; kind = Object id; place = f.place }) ≡ false
       → AllByRecursion (λ (c : Candidate). bound ≤ c.bound) (candidates_of_kind nodes bound place k)
-      → AllByRecursion (λ (c : Candidate). candidate_is_before c (record { bound = f.bound; id = id; place = f.place }) ≡ false) (candidates_of_kind nodes bound place k)
+      → AllByRecursion (λ (c : Candidate). candidate_is_before c (record { bound = f.bound; id = id; place = f.place }) ≡ false)
+          (candidates_of_kind nodes bound place k)
   later-kind f id bound place (Node level) is first all =
       let less = node-further bound level place f.bound id f.place first in
       let this : Candidate = record { bound = f.bound; id = id; place = f.place } in
-      all-weaker (λ (c : Candidate). bound ≤ c.bound) (λ (c : Candidate). candidate_is_before c this ≡ false) (λ c h. bound-later c this (omega (arith, less, h))) (nodes.objects level place) all
+      all-weaker (λ (c : Candidate). bound ≤ c.bound) (λ (c : Candidate). candidate_is_before c this ≡ false)
+          (λ c h. bound-later c this (omega (arith, less, h))) (nodes.objects level place) all
   later-kind f id bound place (Object next) is first all = (object-later bound next place f.bound id f.place first, tt)
 
   -- the weight of what is put in
-  pub lighter : (is_sound : ℕ → ℕ → Type 0) (can_visit : Waiting → Type 0) (k : ℕ) (ranks : List Pair) (level : ℕ) (f : Waiting) (items new now : List Waiting) → IsPermutation items (f ∷ new) → f.kind ≡ Node level
+  pub lighter : (is_sound : ℕ → ℕ → Type 0) (can_visit : Waiting → Type 0) (k : ℕ) (ranks : List Pair) (level : ℕ) (f : Waiting) (items new now : List Waiting)
+      → IsPermutation items (f ∷ new) → f.kind ≡ Node level
       → Expands nodes is_sound can_visit k ranks level f.place new now → sum_by (weight_of nodes) now < sum_by (weight_of nodes) items
   lighter is_sound can_visit k ranks level f items new now moved is opens =
       let a : sum_by (weight_of nodes) items ≡ sum_by (weight_of nodes) (f ∷ new) = sym (sum_by-IsPermutation (weight_of nodes) items (f ∷ new) moved) in
       let b = sum_by-cons (weight_of nodes) f new in
-      let c : sum_by (weight_of nodes) opens.rows ≡ sum_by (weight_of nodes) (opens.put_in ++ opens.left_out) = sym (sum_by-IsPermutation (weight_of nodes) opens.rows _ opens.parts) in
+      let c : sum_by (weight_of nodes) opens.rows ≡ sum_by (weight_of nodes) (opens.put_in ++ opens.left_out) =
+          sym (sum_by-IsPermutation (weight_of nodes) opens.rows _ opens.parts) in
       let d = sum_by-append (weight_of nodes) opens.put_in opens.left_out in
       let e : sum_by (weight_of nodes) (opens.put_in ++ new) ≡ sum_by (weight_of nodes) now = sym (sum_by-IsPermutation (weight_of nodes) _ now opens.added) in
       let h = sum_by-append (weight_of nodes) opens.put_in new in
       let w : weight_of nodes f ≡ nodes.weight level = ap (weight_kind nodes) is in
       let l = opens.lighter in omega (arith, a, b, c, d, e, h, w, l)
 
-  pub object-weighs : (id : ℕ) (f : Waiting) (items new : List Waiting) → IsPermutation items (f ∷ new) → f.kind ≡ Object id → sum_by (weight_of nodes) items ≡ 1 + sum_by (weight_of nodes) new
+  pub object-weighs : (id : ℕ) (f : Waiting) (items new : List Waiting) → IsPermutation items (f ∷ new) → f.kind ≡ Object id
+      → sum_by (weight_of nodes) items ≡ 1 + sum_by (weight_of nodes) new
   object-weighs id f items new moved is =
       let a : sum_by (weight_of nodes) items ≡ sum_by (weight_of nodes) (f ∷ new) = sym (sum_by-IsPermutation (weight_of nodes) items (f ∷ new) moved) in
       let b = sum_by-cons (weight_of nodes) f new in
@@ -86,7 +96,8 @@ module _ (nodes : Nodes) where
 -- n candidates were measured, and the least ranks are the first of theirs. What is left is under the items and under
 -- those that were left out of the queue, which the ranks that were seen prune. This many nodes of all in reach were
 -- opened.
-pub record Looked (dist : List ℕ → List ℕ → ℕ) (object_at : ℕ → List ℕ) (query : List ℕ) (nodes : Nodes) (is_sound : ℕ → ℕ → Type 0) (k : ℕ) (cs : List Candidate) (n : ℕ) (least : List Pair) (items : List Waiting) (opened all : ℕ) : Type 0 where
+pub record Looked (dist : List ℕ → List ℕ → ℕ) (object_at : ℕ → List ℕ) (query : List ℕ) (nodes : Nodes) (is_sound : ℕ → ℕ
+    → Type 0) (k : ℕ) (cs : List Candidate) (n : ℕ) (least : List Pair) (items : List Waiting) (opened all : ℕ) : Type 0 where
   pub within : n ≤ length cs
   pub first : least ≡ take k (sorted_by goes_before (ranks_at dist object_at query (take n cs)))
   pub looked_at : All (λ (c : Candidate). count_before (bound_rank c) (ranks_at dist object_at query cs) < k) (take n cs)
@@ -94,7 +105,8 @@ pub record Looked (dist : List ℕ → List ℕ → ℕ) (object_at : ℕ → Li
   pub left : drop n cs ≡ queued_candidates nodes (items ++ aside)
   pub bounded : AllByRecursion (IsLeast nodes is_sound) (items ++ aside)
   pub shut : AllByRecursion (IsPruned k (ranks_at dist object_at query (take n cs))) aside
-  pub counted : opened + count_by (λ b. nat_lt (count_before (b, 0) (ranks_at dist object_at query cs)) k) (flat_map (bounds_under nodes) (items ++ aside)) ≡ all
+  pub counted : opened + count_by (λ b. nat_lt (count_before (b, 0) (ranks_at dist object_at query cs)) k) (flat_map (bounds_under nodes) (items ++ aside))
+      ≡ all
 
 module _ (dist : List ℕ → List ℕ → ℕ) (object_at : ℕ → List ℕ) (query : List ℕ) (nodes : Nodes) (is_sound : ℕ → ℕ → Type 0) (k : ℕ) where
   -- nothing was looked at yet
@@ -110,15 +122,19 @@ module _ (dist : List ℕ → List ℕ → ℕ) (object_at : ℕ → List ℕ) (
         bounded = subst (AllByRecursion (IsLeast nodes is_sound)) (sym none) bounds.least;
         shut = tt;
         counted =
-            (let whole = ap (λ xs. count_by (λ b. nat_lt (count_before (b, 0) (ranks_at dist object_at query (queued_candidates nodes items))) k) (flat_map (bounds_under nodes) xs)) none in
+            (let whole = ap (λ xs. count_by (λ b. nat_lt (count_before (b, 0) (ranks_at dist object_at query (queued_candidates nodes items))) k)
+                (flat_map (bounds_under nodes) xs)) none in
             omega (arith, whole));
       }
 
   -- no rank goes before the key of its candidate
-  pub all-lower : (items : List Waiting) → AreBounds dist object_at query nodes is_sound items → AllByRecursion (λ (c : Candidate). goes_before (rank_at dist object_at query c) (bound_rank c) ≡ false) (queued_candidates nodes items)
-  all-lower items bounds = all-sorted_by candidate_is_before (λ (c : Candidate). goes_before (rank_at dist object_at query c) (bound_rank c) ≡ false) (flat_map (candidates_under nodes) items) bounds.lower
+  pub all-lower : (items : List Waiting) → AreBounds dist object_at query nodes is_sound items
+      → AllByRecursion (λ (c : Candidate). goes_before (rank_at dist object_at query c) (bound_rank c) ≡ false) (queued_candidates nodes items)
+  all-lower items bounds = all-sorted_by candidate_is_before (λ (c : Candidate). goes_before (rank_at dist object_at query c) (bound_rank c) ≡ false)
+      (flat_map (candidates_under nodes) items) bounds.lower
 
-  module _ (cs : List Candidate) (low : AllByRecursion (λ (c : Candidate). goes_before (rank_at dist object_at query c) (bound_rank c) ≡ false) cs) (n : ℕ) (least : List Pair) (items : List Waiting) (opened all : ℕ)
+  module _ (cs : List Candidate) (low : AllByRecursion (λ (c : Candidate). goes_before (rank_at dist object_at query c) (bound_rank c) ≡ false) cs) (n : ℕ)
+      (least : List Pair) (items : List Waiting) (opened all : ℕ)
       (looked : Looked dist object_at query nodes is_sound k cs n least items opened all) where
     abbrev ranks : List Pair
     ranks = ranks_at dist object_at query cs
@@ -137,15 +153,18 @@ module _ (dist : List ℕ → List ℕ → ℕ) (object_at : ℕ → List ℕ) (
 
     -- ---- all that is left is pruned
 
-    keys-shut : (w : Waiting) → (IsLeast nodes is_sound w) × (IsPruned k seen w) → AllByRecursion (λ (c : Candidate). k ≤ count_before (bound_rank c) seen) (candidates_under nodes w)
+    keys-shut : (w : Waiting) → (IsLeast nodes is_sound w) × (IsPruned k seen w)
+        → AllByRecursion (λ (c : Candidate). k ≤ count_before (bound_rank c) seen) (candidates_under nodes w)
     keys-shut w h =
-        all-weaker (λ (c : Candidate). goes_before (bound_rank c) (least_rank w) ≡ false) (λ (c : Candidate). k ≤ count_before (bound_rank c) seen) (λ c later. let a = count_before-more (least_rank w) (bound_rank c) seen later in let b = h.1 in omega (arith, a, b)) (candidates_under nodes w)
+        all-weaker (λ (c : Candidate). goes_before (bound_rank c) (least_rank w) ≡ false) (λ (c : Candidate). k ≤ count_before (bound_rank c) seen)
+            (λ c later. let a = count_before-more (least_rank w) (bound_rank c) seen later in let b = h.1 in omega (arith, a, b)) (candidates_under nodes w)
         (keys-kind nodes w.bound w.place w.kind (h.0).objects)
 
     bounds-shut : (w : Waiting) → (IsLeast nodes is_sound w) × (IsPruned k seen w) → AllByRecursion (λ (b : ℕ). in_reach b ≡ false) (bounds_under nodes w)
     bounds-shut w h =
         all-weaker (λ (b : ℕ). goes_before (b, 0) (least_rank w) ≡ false) (λ (b : ℕ). in_reach b ≡ false)
-        (λ b later. without-is k _ (let a = count_before-more (least_rank w) (b, 0) seen later in let c = no-fewer dist object_at query cs n lower (b, 0) in let d = h.1 in omega (arith, a, c, d))) (bounds_under nodes w)
+        (λ b later. without-is k _ (let a = count_before-more (least_rank w) (b, 0) seen later in let c = no-fewer dist object_at query cs n lower (b, 0) in
+            let d = h.1 in omega (arith, a, c, d))) (bounds_under nodes w)
         (bounds-in-kind nodes w.bound w.place w.kind (h.0).bounds)
 
     finished : (ws : List Waiting) → IsPermutation (items ++ looked.aside) ws → AllByRecursion (IsPruned k seen) ws → Visited dist object_at query cs k n least
@@ -155,13 +174,16 @@ module _ (dist : List ℕ → List ℕ → ℕ) (object_at : ℕ → List ℕ) (
         (subst (AllByRecursion (λ (c : Candidate). k ≤ count_before (bound_rank c) seen)) (sym looked.left)
         (all-sorted_by candidate_is_before (λ (c : Candidate). k ≤ count_before (bound_rank c) seen) (flat_map (candidates_under nodes) (items ++ looked.aside))
         (moved-back (λ (c : Candidate). k ≤ count_before (bound_rank c) seen) _ _ (permutation-flat_map (candidates_under nodes) _ ws moved)
-        (all-pieces (λ w. (IsLeast nodes is_sound w) × (IsPruned k seen w)) (λ (c : Candidate). k ≤ count_before (bound_rank c) seen) (candidates_under nodes) keys-shut ws both))))
+        (all-pieces (λ w. (IsLeast nodes is_sound w)
+            × (IsPruned k seen w)) (λ (c : Candidate). k ≤ count_before (bound_rank c) seen) (candidates_under nodes) keys-shut ws both))))
 
     none-left : (ws : List Waiting) → IsPermutation (items ++ looked.aside) ws → AllByRecursion (IsPruned k seen) ws → opened ≡ all
     none-left ws moved shut =
         let both = all-both (IsLeast nodes is_sound) (IsPruned k seen) ws (all-moved (IsLeast nodes is_sound) _ ws moved looked.bounded) shut in
-        let none = count-none in_reach (bounds_of ws) (all-pieces (λ w. (IsLeast nodes is_sound w) × (IsPruned k seen w)) (λ (b : ℕ). in_reach b ≡ false) (bounds_under nodes) bounds-shut ws both) in
-        let same : count_by in_reach (bounds_of ws) ≡ count_by in_reach (bounds_of (items ++ looked.aside)) = sum_by-IsPermutation _ _ _ (permutation-flat_map (bounds_under nodes) _ ws moved) in
+        let none = count-none in_reach (bounds_of ws)
+            (all-pieces (λ w. (IsLeast nodes is_sound w) × (IsPruned k seen w)) (λ (b : ℕ). in_reach b ≡ false) (bounds_under nodes) bounds-shut ws both) in
+        let same : count_by in_reach (bounds_of ws) ≡ count_by in_reach (bounds_of (items ++ looked.aside)) =
+            sum_by-IsPermutation _ _ _ (permutation-flat_map (bounds_under nodes) _ ws moved) in
         let counted = looked.counted in omega (arith, none, same, counted)
 
     -- the queue is empty: what is left was left out of it
@@ -176,7 +198,8 @@ module _ (dist : List ℕ → List ℕ → ℕ) (object_at : ℕ → List ℕ) (
 
     -- ---- one is taken out
 
-    module _ (f : Waiting) (new : List Waiting) (moved : IsPermutation items (f ∷ new)) (first : AllByRecursion (λ (w : Waiting). is_visited_before w f ≡ false) new) where
+    module _ (f : Waiting) (new : List Waiting) (moved : IsPermutation items (f ∷ new))
+        (first : AllByRecursion (λ (w : Waiting). is_visited_before w f ≡ false) new) where
       abbrev rest : List Waiting
       rest = new ++ looked.aside
 
@@ -193,7 +216,9 @@ module _ (dist : List ℕ → List ℕ → ℕ) (object_at : ℕ → List ℕ) (
       all-shut : true ≡ nat_le k (count_before (least_rank f) least) → AllByRecursion (IsPruned k seen) (f ∷ rest)
       all-shut shut =
           let this : IsPruned k seen f = shut-is k _ (shut ∙ told-by) in
-          (this, all-append (IsPruned k seen) new looked.aside (all-weaker (λ (w : Waiting). is_visited_before w f ≡ false) (IsPruned k seen) (λ w h. let a = count_before-more (least_rank f) (least_rank w) seen (key-later f w h) in omega (arith, a, this)) new first) looked.shut)
+          (this, all-append (IsPruned k seen) new looked.aside
+              (all-weaker (λ (w : Waiting). is_visited_before w f ≡ false) (IsPruned k seen) (λ w h. let a =
+              count_before-more (least_rank f) (least_rank w) seen (key-later f w h) in omega (arith, a, this)) new first) looked.shut)
 
       pub visited-shut : true ≡ nat_le k (count_before (least_rank f) least) → Visited dist object_at query cs k n least
       visited-shut shut = finished (f ∷ rest) moved-on (all-shut shut)
@@ -207,22 +232,31 @@ module _ (dist : List ℕ → List ℕ → ℕ) (object_at : ℕ → List ℕ) (
         room = open-is k _ (fits ∙ told-by)
 
         rest-later : AllByRecursion (λ (w : Waiting). is_visited_before w f ≡ false) rest
-        rest-later = all-append (λ (w : Waiting). is_visited_before w f ≡ false) new looked.aside first (all-weaker (IsPruned k seen) (λ (w : Waiting). is_visited_before w f ≡ false) (λ w h. open-first k seen f w room h) looked.aside looked.shut)
+        rest-later = all-append (λ (w : Waiting). is_visited_before w f ≡ false) new looked.aside first
+            (all-weaker (IsPruned k seen) (λ (w : Waiting). is_visited_before w f ≡ false) (λ w h. open-first k seen f w room h) looked.aside looked.shut)
 
         keys-later : AllByRecursion (λ (w : Waiting). goes_before (least_rank w) (least_rank f) ≡ false) (f ∷ rest)
-        keys-later = (pair_order.never_itself (least_rank f), all-weaker (λ (w : Waiting). is_visited_before w f ≡ false) (λ (w : Waiting). goes_before (least_rank w) (least_rank f) ≡ false) (λ w h. key-later f w h) rest rest-later)
+        keys-later = (pair_order.never_itself (least_rank f),
+            all-weaker (λ (w : Waiting). is_visited_before w f ≡ false) (λ (w : Waiting). goes_before (least_rank w) (least_rank f) ≡ false)
+            (λ w h. key-later f w h) rest rest-later)
 
-        candidates_under-later : (w : Waiting) → (IsLeast nodes is_sound w) × (goes_before (least_rank w) (least_rank f) ≡ false) → AllByRecursion (λ (c : Candidate). goes_before (bound_rank c) (least_rank f) ≡ false) (candidates_under nodes w)
+        candidates_under-later : (w : Waiting) → (IsLeast nodes is_sound w) × (goes_before (least_rank w) (least_rank f) ≡ false)
+            → AllByRecursion (λ (c : Candidate). goes_before (bound_rank c) (least_rank f) ≡ false) (candidates_under nodes w)
         candidates_under-later w h =
-            all-weaker (λ (c : Candidate). goes_before (bound_rank c) (least_rank w) ≡ false) (λ (c : Candidate). goes_before (bound_rank c) (least_rank f) ≡ false) (λ c later. order.chain (bound_rank c) (least_rank w) (least_rank f) later h.1) (candidates_under nodes w)
+            all-weaker (λ (c : Candidate). goes_before (bound_rank c) (least_rank w) ≡ false)
+                (λ (c : Candidate). goes_before (bound_rank c) (least_rank f) ≡ false)
+                (λ c later. order.chain (bound_rank c) (least_rank w) (least_rank f) later h.1) (candidates_under nodes w)
             (keys-kind nodes w.bound w.place w.kind (h.0).objects)
 
         left-later : AllByRecursion (λ (c : Candidate). goes_before (bound_rank c) (least_rank f) ≡ false) (drop n cs)
         left-later =
             subst (AllByRecursion (λ (c : Candidate). goes_before (bound_rank c) (least_rank f) ≡ false)) (sym looked.left)
-            (all-sorted_by candidate_is_before (λ (c : Candidate). goes_before (bound_rank c) (least_rank f) ≡ false) (flat_map (candidates_under nodes) (items ++ looked.aside))
-            (moved-back (λ (c : Candidate). goes_before (bound_rank c) (least_rank f) ≡ false) _ _ (permutation-flat_map (candidates_under nodes) _ (f ∷ rest) moved-on)
-            (all-pieces (λ w. (IsLeast nodes is_sound w) × (goes_before (least_rank w) (least_rank f) ≡ false)) (λ (c : Candidate). goes_before (bound_rank c) (least_rank f) ≡ false) (candidates_under nodes) candidates_under-later (f ∷ rest)
+            (all-sorted_by candidate_is_before (λ (c : Candidate). goes_before (bound_rank c) (least_rank f) ≡ false)
+                (flat_map (candidates_under nodes) (items ++ looked.aside))
+            (moved-back (λ (c : Candidate). goes_before (bound_rank c) (least_rank f) ≡ false) _ _
+                (permutation-flat_map (candidates_under nodes) _ (f ∷ rest) moved-on)
+            (all-pieces (λ w. (IsLeast nodes is_sound w) × (goes_before (least_rank w) (least_rank f) ≡ false))
+                (λ (c : Candidate). goes_before (bound_rank c) (least_rank f) ≡ false) (candidates_under nodes) candidates_under-later (f ∷ rest)
             (all-both (IsLeast nodes is_sound) (λ (w : Waiting). goes_before (least_rank w) (least_rank f) ≡ false) (f ∷ rest) bounded keys-later))))
 
         -- fewer than k of all ranks go before its key
@@ -232,7 +266,8 @@ module _ (dist : List ℕ → List ℕ → ℕ) (object_at : ℕ → List ℕ) (
         counts : count_by in_reach (bounds_of (items ++ looked.aside)) ≡ count_by in_reach (bounds_under nodes f) + count_by in_reach (bounds_of rest)
         counts =
             sym (sum_by-IsPermutation _ _ _ (permutation-flat_map (bounds_under nodes) _ (f ∷ rest) moved-on))
-            ∙ ap (count_by in_reach) (flat_map-cons (bounds_under nodes) f rest) ∙ sum_by-append (λ b. if in_reach b then 1 else 0) (bounds_under nodes f) (bounds_of rest)
+            ∙ ap (count_by in_reach) (flat_map-cons (bounds_under nodes) f rest)
+                ∙ sum_by-append (λ b. if in_reach b then 1 else 0) (bounds_under nodes f) (bounds_of rest)
 
         -- ---- an object is measured
 
@@ -249,7 +284,8 @@ module _ (dist : List ℕ → List ℕ → ℕ) (object_at : ℕ → List ℕ) (
 
           candidates-later : AllByRecursion (λ (c : Candidate). candidate_is_before c this ≡ false) (flat_map (candidates_under nodes) rest)
           candidates-later =
-              all-pieces (λ w. (IsLeast nodes is_sound w) × (is_visited_before w f ≡ false)) (λ (c : Candidate). candidate_is_before c this ≡ false) (candidates_under nodes)
+              all-pieces (λ w. (IsLeast nodes is_sound w)
+                  × (is_visited_before w f ≡ false)) (λ (c : Candidate). candidate_is_before c this ≡ false) (candidates_under nodes)
               (λ w h. later-kind nodes f id w.bound w.place w.kind is (subst (λ (g : Waiting). is_visited_before w g ≡ false) itself h.1) (h.0).objects) rest
               (all-both (IsLeast nodes is_sound) (λ (w : Waiting). is_visited_before w f ≡ false) rest bounded.1 rest-later)
 
@@ -257,7 +293,8 @@ module _ (dist : List ℕ → List ℕ → ℕ) (object_at : ℕ → List ℕ) (
           next =
               looked.left
               ∙ sorted_by-same candidate_is_before first_order _ _ (permutation-flat_map (candidates_under nodes) _ (f ∷ rest) moved-on)
-              ∙ ap (sorted_by candidate_is_before) (flat_map-cons (candidates_under nodes) f rest ∙ ap (λ kind. candidates_of_kind nodes f.bound f.place kind ++ flat_map (candidates_under nodes) rest) is)
+              ∙ ap (sorted_by candidate_is_before) (flat_map-cons (candidates_under nodes) f rest
+                  ∙ ap (λ kind. candidates_of_kind nodes f.bound f.place kind ++ flat_map (candidates_under nodes) rest) is)
               ∙ sorted_by-append candidate_is_before first_order (this ∷ []) (flat_map (candidates_under nodes) rest) (candidates-later, tt)
               ∙ ap (λ xs. xs ++ queued_candidates nodes rest) one
 
@@ -270,29 +307,34 @@ module _ (dist : List ℕ → List ℕ → ℕ) (object_at : ℕ → List ℕ) (
           key : least_rank f ≡ bound_rank this
           key = ap {B = Pair} (λ kind. (f.bound, least_id kind)) is
 
-          pub measured : (ranked : List Pair) → ranked ≡ take k (with_inserted goes_before (rank_at dist object_at query this) least) → Looked dist object_at query nodes is_sound k cs (n + 1) ranked new opened all
+          pub measured : (ranked : List Pair) → ranked ≡ take k (with_inserted goes_before (rank_at dist object_at query this) least)
+              → Looked dist object_at query nodes is_sound k cs (n + 1) ranked new opened all
           measured ranked put = record {
             within = (let a = within in omega (arith, a));
             first = first-more dist object_at query cs n this within at k least ranked looked.first put;
-            looked_at = All-more (λ (c : Candidate). count_before (bound_rank c) ranks < k) cs n this within looked.looked_at (subst (λ (c : Candidate). count_before (bound_rank c) ranks < k) at (subst (λ (p : Pair). count_before p ranks < k) key few));
+            looked_at = All-more (λ (c : Candidate). count_before (bound_rank c) ranks < k) cs n this within looked.looked_at
+                (subst (λ (c : Candidate). count_before (bound_rank c) ranks < k) at (subst (λ (p : Pair). count_before p ranks < k) key few));
             aside = looked.aside;
             left = sym (next-left cs (queued_candidates nodes rest) n this next);
             bounded = bounded.1;
             shut =
                 subst (λ rs. AllByRecursion (IsPruned k rs) looked.aside) (sym (seen-more dist object_at query cs n this within at))
-                (all-weaker (IsPruned k seen) (IsPruned k (seen ++ rank_at dist object_at query this ∷ [])) (λ w h. let a = count_before-append (least_rank w) seen (rank_at dist object_at query this ∷ []) in omega (arith, a, h)) looked.aside looked.shut);
+                (all-weaker (IsPruned k seen) (IsPruned k (seen ++ rank_at dist object_at query this ∷ [])) (λ w h. let a =
+                    count_before-append (least_rank w) seen (rank_at dist object_at query this ∷ []) in omega (arith, a, h)) looked.aside looked.shut);
             counted =
                 (let a = counts in
                 let b : count_by in_reach (bounds_under nodes f) ≡ 0 = ap (λ kind. count_by in_reach (bounds_kind nodes f.bound f.place kind)) is in
                 let c = looked.counted in omega (arith, a, b, c));
           }
 
-          pub logged : each_with query (objects_at object_at (take n cs)) ++ (query, object_at f.place) ∷ [] ≡ each_with query (objects_at object_at (take (n + 1) cs))
+          pub logged : each_with query (objects_at object_at (take n cs)) ++ (query, object_at f.place) ∷ []
+              ≡ each_with query (objects_at object_at (take (n + 1) cs))
           logged = objects-more dist object_at query cs n this within at
 
         -- ---- a node is opened
 
-        module _ (level : ℕ) (is : f.kind ≡ Node level) (can_visit : Waiting → Type 0) (now : List Waiting) (opens : Expands nodes is_sound can_visit k least level f.place new now) where
+        module _ (level : ℕ) (is : f.kind ≡ Node level) (can_visit : Waiting
+            → Type 0) (now : List Waiting) (opens : Expands nodes is_sound can_visit k least level f.place new now) where
           abbrev more : List Waiting
           more = opens.left_out ++ looked.aside
 
@@ -301,15 +343,19 @@ module _ (dist : List ℕ → List ℕ → ℕ) (object_at : ℕ → List ℕ) (
               IsPermutation-trans _ _ _ (IsPermutation-append_left rest opens.rows _ opens.parts)
               (subst (λ xs. IsPermutation xs (now ++ more)) (sym (append_assoc opens.put_in opens.left_out rest))
               (IsPermutation-trans _ _ _ (IsPermutation-append_right opens.put_in _ _ (permutation-fronts opens.left_out new looked.aside))
-              (subst (λ xs. IsPermutation xs (now ++ more)) (append_assoc opens.put_in new more) (IsPermutation-append_left more (opens.put_in ++ new) now opens.added))))
+              (subst (λ xs. IsPermutation xs (now ++ more)) (append_assoc opens.put_in new more)
+                  (IsPermutation-append_left more (opens.put_in ++ new) now opens.added))))
 
           same-objects : queued_candidates nodes (items ++ looked.aside) ≡ queued_candidates nodes (now ++ more)
           same-objects =
               sorted_by-same candidate_is_before first_order _ _
               (IsPermutation-trans _ _ _ (permutation-flat_map (candidates_under nodes) _ (f ∷ rest) moved-on)
-              (subst (λ xs. IsPermutation xs (flat_map (candidates_under nodes) (now ++ more))) (sym (flat_map-cons (candidates_under nodes) f rest ∙ ap (λ kind. candidates_of_kind nodes f.bound f.place kind ++ flat_map (candidates_under nodes) rest) is))
+              (subst (λ xs. IsPermutation xs (flat_map (candidates_under nodes) (now ++ more)))
+                  (sym (flat_map-cons (candidates_under nodes) f rest
+                  ∙ ap (λ kind. candidates_of_kind nodes f.bound f.place kind ++ flat_map (candidates_under nodes) rest) is))
               (IsPermutation-trans _ _ _ (IsPermutation-append_left (flat_map (candidates_under nodes) rest) _ _ opens.objects)
-              (subst (λ xs. IsPermutation xs (flat_map (candidates_under nodes) (now ++ more))) (flat_map-append (candidates_under nodes) opens.rows rest) (permutation-flat_map (candidates_under nodes) _ _ replaced)))))
+              (subst (λ xs. IsPermutation xs (flat_map (candidates_under nodes) (now ++ more))) (flat_map-append (candidates_under nodes) opens.rows rest)
+                  (permutation-flat_map (candidates_under nodes) _ _ replaced)))))
 
           sound : is_sound level f.place
           sound = subst (IsSoundKind is_sound f.place) is (bounded.0).sound
@@ -324,8 +370,10 @@ module _ (dist : List ℕ → List ℕ → ℕ) (object_at : ℕ → List ℕ) (
               let a = counts in
               let b = ap (λ kind. count_by in_reach (bounds_kind nodes f.bound f.place kind)) is in
               let c = sum_by-cons (λ m. if in_reach m then 1 else 0) f.bound (nodes.bounds level f.place) in
-              let d : count_by in_reach (nodes.bounds level f.place) ≡ count_by in_reach (bounds_of opens.rows) = sym (sum_by-IsPermutation _ _ _ opens.bounds) in
-              let e : count_by in_reach (bounds_of (opens.rows ++ rest)) ≡ count_by in_reach (bounds_of (now ++ more)) = sym (sum_by-IsPermutation _ _ _ (permutation-flat_map (bounds_under nodes) _ _ replaced)) in
+              let d : count_by in_reach (nodes.bounds level f.place) ≡ count_by in_reach (bounds_of opens.rows) =
+                  sym (sum_by-IsPermutation _ _ _ opens.bounds) in
+              let e : count_by in_reach (bounds_of (opens.rows ++ rest)) ≡ count_by in_reach (bounds_of (now ++ more)) =
+                  sym (sum_by-IsPermutation _ _ _ (permutation-flat_map (bounds_under nodes) _ _ replaced)) in
               let g = ap (count_by in_reach) (flat_map-append (bounds_under nodes) opens.rows rest) in
               let h = sum_by-append (λ m. if in_reach m then 1 else 0) (bounds_of opens.rows) (bounds_of rest) in
               omega (arith, one, a, b, c, d, e, g, h)
@@ -340,6 +388,7 @@ module _ (dist : List ℕ → List ℕ → ℕ) (object_at : ℕ → List ℕ) (
             bounded = all-moved (IsLeast nodes is_sound) _ _ replaced (all-append (IsLeast nodes is_sound) opens.rows rest (opens.least sound) bounded.1);
             shut =
                 all-append (IsPruned k seen) opens.left_out looked.aside
-                (all-weaker (IsPruned k least) (IsPruned k seen) (λ w h. le-told k _ _ (told dist object_at query cs n lower k least looked.first (least_rank w)) h) opens.left_out opens.shut) looked.shut;
+                (all-weaker (IsPruned k least) (IsPruned k seen)
+                    (λ w h. le-told k _ _ (told dist object_at query cs n lower k least looked.first (least_rank w)) h) opens.left_out opens.shut) looked.shut;
             counted = (let a = counts-now in let b = looked.counted in omega (arith, a, b));
           }

@@ -99,4 +99,5 @@ queued_candidates nodes items = sorted_by candidate_is_before (flat_map (candida
 
 -- none goes before an earlier one, by bound and id
 abbrev pub IsSortedByBound : List Candidate → Type 0
-IsSortedByBound cs = (i j : ℕ) (d : Candidate) → i ≤ j → j < length cs → goes_before (bound_rank (slice_index_or cs j d)) (bound_rank (slice_index_or cs i d)) ≡ false
+IsSortedByBound cs = (i j : ℕ) (d : Candidate) → i ≤ j → j < length cs
+    → goes_before (bound_rank (slice_index_or cs j d)) (bound_rank (slice_index_or cs i d)) ≡ false

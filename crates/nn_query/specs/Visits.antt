@@ -40,12 +40,15 @@ pub record IsLeast (nodes : Nodes) (is_sound : ℕ → ℕ → Type 0) (w : Wait
   pub sound : IsSoundKind is_sound w.place w.kind
 
 -- no bound is too great: neither that of an object for its distance, nor that of a node for what is under it
-pub record AreBounds (dist : Distance) (object_at : ℕ → List ℕ) (query : List ℕ) (nodes : Nodes) (is_sound : ℕ → ℕ → Type 0) (items : List Waiting) : Type 0 where
-  pub lower : AllByRecursion (λ (c : Candidate). goes_before (dist query (object_at c.place), c.id) (bound_rank c) ≡ false) (flat_map (candidates_under nodes) items)
+pub record AreBounds (dist : Distance) (object_at : ℕ → List ℕ) (query : List ℕ) (nodes : Nodes) (is_sound : ℕ → ℕ
+    → Type 0) (items : List Waiting) : Type 0 where
+  pub lower : AllByRecursion (λ (c : Candidate). goes_before (dist query (object_at c.place), c.id) (bound_rank c) ≡ false)
+      (flat_map (candidates_under nodes) items)
   pub least : AllByRecursion (IsLeast nodes is_sound) items
 
 -- The node of this level at this place was opened: its rows were put in, but for some that k of the ranks prune.
-pub record Expands (nodes : Nodes) (is_sound : ℕ → ℕ → Type 0) (can_visit : Waiting → Type 0) (k : ℕ) (ranks : List Rank) (level place : ℕ) (old new : List Waiting) : Type 0 where
+pub record Expands (nodes : Nodes) (is_sound : ℕ → ℕ → Type 0) (can_visit : Waiting
+    → Type 0) (k : ℕ) (ranks : List Rank) (level place : ℕ) (old new : List Waiting) : Type 0 where
   pub rows : List Waiting
   pub objects : IsPermutation (nodes.objects level place) (flat_map (candidates_under nodes) rows)
   pub bounds : IsPermutation (nodes.bounds level place) (flat_map (bounds_under nodes) rows)
@@ -64,7 +67,8 @@ pub record Expands (nodes : Nodes) (is_sound : ℕ → ℕ → Type 0) (can_visi
 -- k ranks go
 abbrev pub nodes_in_reach : Distance → (ℕ → List ℕ) → List ℕ → Nodes → ℕ → List Waiting → ℕ
 nodes_in_reach dist object_at query nodes k items =
-    count_by (λ b. nat_lt (count_before (b, 0) (ranks_of dist (entries_at object_at (queued_candidates nodes items)) query)) k) (flat_map (bounds_under nodes) items)
+    count_by (λ b. nat_lt (count_before (b, 0) (ranks_of dist (entries_at object_at (queued_candidates nodes items)) query)) k)
+        (flat_map (bounds_under nodes) items)
 
 -- The first n candidates are those before whose bound and id fewer than k ranks of all candidates go, and the least
 -- ranks are the first k of all.

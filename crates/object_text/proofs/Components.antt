@@ -21,17 +21,23 @@ use Rattle.object_text.proofs.Cuts.{split-none, split-some}
 abbrev pub completed : ℕ → ℕ → List ℕ → List (List ℕ) → Option (List ℕ)
 completed dim most ns words = option_and_then (λ ms. vector_with dim (ns ++ ms)) (numbers_within most words)
 
-pub completed-none : (dim most : ℕ) (ns : List ℕ) (word : List ℕ) (words : List (List ℕ)) → number_within most word ≡ None → completed dim most ns (word ∷ words) ≡ None
+pub completed-none : (dim most : ℕ) (ns : List ℕ) (word : List ℕ) (words : List (List ℕ)) → number_within most word ≡ None
+    → completed dim most ns (word ∷ words) ≡ None
 completed-none dim most ns word words e =
-    ap (λ (o : Option ℕ). option_and_then (λ ms. vector_with dim (ns ++ ms)) (option_and_then (λ n. option_and_then (λ ms. Some (n ∷ ms)) (numbers_within most words)) o)) e
+    ap (λ (o : Option ℕ). option_and_then (λ ms. vector_with dim (ns ++ ms))
+        (option_and_then (λ n. option_and_then (λ ms. Some (n ∷ ms)) (numbers_within most words)) o)) e
 
-moved : (dim n : ℕ) (ns : List ℕ) (read : Option (List ℕ)) → option_and_then (λ ms. vector_with dim (ns ++ ms)) (option_and_then (λ ms. Some (n ∷ ms)) read) ≡ option_and_then (λ ms. vector_with dim ((ns ++ n ∷ []) ++ ms)) read
+moved : (dim n : ℕ) (ns : List ℕ) (read : Option (List ℕ))
+    → option_and_then (λ ms. vector_with dim (ns ++ ms)) (option_and_then (λ ms. Some (n ∷ ms)) read)
+    ≡ option_and_then (λ ms. vector_with dim ((ns ++ n ∷ []) ++ ms)) read
 moved dim n ns None = refl
 moved dim n ns (Some ms) = ap (vector_with dim) (sym (append_assoc ns (n ∷ []) ms))
 
-pub completed-more : (dim most n : ℕ) (ns : List ℕ) (word : List ℕ) (words : List (List ℕ)) → number_within most word ≡ Some n → completed dim most ns (word ∷ words) ≡ completed dim most (ns ++ n ∷ []) words
+pub completed-more : (dim most n : ℕ) (ns : List ℕ) (word : List ℕ) (words : List (List ℕ)) → number_within most word ≡ Some n
+    → completed dim most ns (word ∷ words) ≡ completed dim most (ns ++ n ∷ []) words
 completed-more dim most n ns word words e =
-    ap (λ (o : Option ℕ). option_and_then (λ ms. vector_with dim (ns ++ ms)) (option_and_then (λ k. option_and_then (λ ms. Some (k ∷ ms)) (numbers_within most words)) o)) e
+    ap (λ (o : Option ℕ). option_and_then (λ ms. vector_with dim (ns ++ ms))
+        (option_and_then (λ k. option_and_then (λ ms. Some (k ∷ ms)) (numbers_within most words)) o)) e
     ∙ moved dim n ns (numbers_within most words)
 
 other_length : (dim : ℕ) (ns : List ℕ) → (length ns ≡ dim → ⊥) → vector_with dim ns ≡ None
@@ -39,7 +45,8 @@ other_length dim ns other =
     let test : (length ns == dim) ≡ false = grind (arith, nat_tests) in
     ap (λ (b : Bool). cond b (Some (object_of_components ns)) None) test
 
-others : (dim many : ℕ) (ns : List ℕ) (read : Option (List ℕ)) → ((ms : List ℕ) → read ≡ Some ms → length ms ≡ many) → (length ns + many ≡ dim → ⊥) → option_and_then (λ ms. vector_with dim (ns ++ ms)) read ≡ None
+others : (dim many : ℕ) (ns : List ℕ) (read : Option (List ℕ)) → ((ms : List ℕ) → read ≡ Some ms → length ms ≡ many) → (length ns + many ≡ dim → ⊥)
+    → option_and_then (λ ms. vector_with dim (ns ++ ms)) read ≡ None
 others dim many ns None h other = refl
 others dim many ns (Some ms) h other =
     let more : length ms ≡ many = h ms refl in
@@ -76,20 +83,25 @@ room dim most done object rest whole b =
     omega arith
 
 -- the rest is the last component, and some are missing
-pub ends_early : (dim most done : ℕ) (object rest : List ℕ) (whole : Option (List ℕ)) → IsBegun dim most done object rest whole → done < dim → slice_split (λ b. b == 44) rest ≡ rest ∷ [] → whole ≡ None
+pub ends_early : (dim most done : ℕ) (object rest : List ℕ) (whole : Option (List ℕ)) → IsBegun dim most done object rest whole → done < dim
+    → slice_split (λ b. b == 44) rest ≡ rest ∷ [] → whole ≡ None
 ends_early dim most done object rest whole b below last =
     let count = b.count in
     b.goes_on ∙ ap (completed dim most b.numbers) last ∙ completed-other dim most b.numbers (rest ∷ []) (λ e. absurd (omega arith))
 
-pub fails : (dim most done : ℕ) (object rest : List ℕ) (whole : Option (List ℕ)) (word : List ℕ) (words : List (List ℕ)) → IsBegun dim most done object rest whole → slice_split (λ b. b == 44) rest ≡ word ∷ words → number_within most word ≡ None → whole ≡ None
+pub fails : (dim most done : ℕ) (object rest : List ℕ) (whole : Option (List ℕ)) (word : List ℕ) (words : List (List ℕ))
+    → IsBegun dim most done object rest whole → slice_split (λ b. b == 44) rest ≡ word ∷ words → number_within most word ≡ None → whole ≡ None
 fails dim most done object rest whole word words b parts none =
     b.goes_on ∙ ap (completed dim most b.numbers) parts ∙ completed-none dim most b.numbers word words none
 
 pub object_of_components-push : (ns : List ℕ) (n : ℕ) → object_of_components (ns ++ n ∷ []) ≡ object_of_components ns ++ to_be_bytes w32 n
 unfolding object_of_components
-object_of_components-push ns n = flat_map-append (to_be_bytes w32) ns (n ∷ []) ∙ ap (λ (bytes : List ℕ). flat_map (to_be_bytes w32) ns ++ bytes) (append-nil (to_be_bytes w32 n))
+object_of_components-push ns n = flat_map-append (to_be_bytes w32) ns (n ∷ [])
+    ∙ ap (λ (bytes : List ℕ). flat_map (to_be_bytes w32) ns ++ bytes) (append-nil (to_be_bytes w32 n))
 
-pub goes_on : (dim most done n : ℕ) (object new rest word behind : List ℕ) (whole : Option (List ℕ)) → IsBegun dim most done object rest whole → slice_split (λ b. b == 44) rest ≡ word ∷ slice_split (λ b. b == 44) behind → number_within most word ≡ Some n → new ≡ object ++ to_be_bytes w32 n → IsBegun dim most (done + 1) new behind whole
+pub goes_on : (dim most done n : ℕ) (object new rest word behind : List ℕ) (whole : Option (List ℕ)) → IsBegun dim most done object rest whole
+    → slice_split (λ b. b == 44) rest ≡ word ∷ slice_split (λ b. b == 44) behind → number_within most word ≡ Some n → new ≡ object ++ to_be_bytes w32 n
+    → IsBegun dim most (done + 1) new behind whole
 goes_on dim most done n object new rest word behind whole b parts some e =
     let count = b.count in
     let pushed : length (b.numbers ++ n ∷ []) ≡ length b.numbers + 1 = length-append b.numbers (n ∷ []) in
@@ -100,7 +112,8 @@ goes_on dim most done n object new rest word behind whole b parts some e =
       goes_on = b.goes_on ∙ ap (completed dim most b.numbers) parts ∙ completed-more dim most n b.numbers word (slice_split (λ x. x == 44) behind) some;
     }
 
-none_left : (dim most : ℕ) (ns rest : List ℕ) (place : Option ℕ) → position (λ b. b == 44) rest ≡ place → length ns + 1 ≡ dim → number_within most rest ≡ None → completed dim most ns (slice_split (λ b. b == 44) rest) ≡ None
+none_left : (dim most : ℕ) (ns rest : List ℕ) (place : Option ℕ) → position (λ b. b == 44) rest ≡ place → length ns + 1 ≡ dim → number_within most rest ≡ None
+    → completed dim most ns (slice_split (λ b. b == 44) rest) ≡ None
 none_left dim most ns rest None at count none =
     ap (completed dim most ns) (split-none (λ b. b == 44) rest at) ∙ completed-none dim most ns rest [] none
 none_left dim most ns rest (Some i) at count none =
@@ -110,14 +123,17 @@ none_left dim most ns rest (Some i) at count none =
     ∙ completed-other dim most ns (take i rest ∷ slice_split (λ b. b == 44) behind) (λ e. absurd (omega arith))
 
 -- the last one fails, also if more would follow
-pub last_fails : (dim most done : ℕ) (object rest : List ℕ) (whole : Option (List ℕ)) → IsBegun dim most done object rest whole → done ≡ dim → number_within most rest ≡ None → whole ≡ None
+pub last_fails : (dim most done : ℕ) (object rest : List ℕ) (whole : Option (List ℕ)) → IsBegun dim most done object rest whole → done ≡ dim
+    → number_within most rest ≡ None → whole ≡ None
 last_fails dim most done object rest whole b end none =
     b.goes_on ∙ none_left dim most b.numbers rest (position (λ x. x == 44) rest) refl (b.count ∙ end) none
 
-pub ends : (dim most done n : ℕ) (object new rest : List ℕ) (whole : Option (List ℕ)) → IsBegun dim most done object rest whole → done ≡ dim → number_within most rest ≡ Some n → new ≡ object ++ to_be_bytes w32 n → whole ≡ Some new
+pub ends : (dim most done n : ℕ) (object new rest : List ℕ) (whole : Option (List ℕ)) → IsBegun dim most done object rest whole → done ≡ dim
+    → number_within most rest ≡ Some n → new ≡ object ++ to_be_bytes w32 n → whole ≡ Some new
 ends dim most done n object new rest whole b end some e =
     let pushed : length (b.numbers ++ n ∷ []) ≡ length b.numbers + 1 = length-append b.numbers (n ∷ []) in
     let count = b.count in
-    let bytes : new ≡ object_of_components (b.numbers ++ n ∷ []) = e ∙ ap (λ (bytes : List ℕ). bytes ++ to_be_bytes w32 n) b.bytes ∙ sym (object_of_components-push b.numbers n) in
+    let bytes : new ≡ object_of_components (b.numbers ++ n ∷ []) = e ∙ ap (λ (bytes : List ℕ). bytes ++ to_be_bytes w32 n) b.bytes
+        ∙ sym (object_of_components-push b.numbers n) in
     b.goes_on ∙ ap (completed dim most b.numbers) (number_within-whole most n rest some) ∙ completed-more dim most n b.numbers rest [] some
     ∙ completed-whole dim most (b.numbers ++ n ∷ []) (omega arith) ∙ ap (λ (o : List ℕ). Some o) (sym bytes)

@@ -14,7 +14,8 @@ use Rattle.metrics_builtin.specs.SetLaws.{length-IsSubset}
 use Rattle.spb_defs.specs.ObjectText.{numbers_text, set_text}
 use Rattle.spb_defs.specs.SetTexts.{text_of_none, text_of_some}
 
-joined_push : (mark : ℕ) (words : List (List ℕ)) (word : List ℕ) → 0 < length words → join_with_byte mark (words ++ word ∷ []) ≡ join_with_byte mark words ++ mark ∷ word
+joined_push : (mark : ℕ) (words : List (List ℕ)) (word : List ℕ) → 0 < length words
+    → join_with_byte mark (words ++ word ∷ []) ≡ join_with_byte mark words ++ mark ∷ word
 joined_push mark [] word some = absurd (omega arith)
 joined_push mark (w ∷ []) word some = refl
 joined_push mark (w ∷ v ∷ vs) word some =
@@ -32,13 +33,15 @@ first_text [] some = absurd (omega arith)
 first_text (n ∷ ns) some = refl
 
 -- the number at `place` after those before it
-more_text : (ns : List ℕ) (place : ℕ) → 1 ≤ place → place < length ns → numbers_text (take (place + 1) ns) ≡ numbers_text (take place ns) ++ 44 ∷ decimal (get_or ns place 0)
+more_text : (ns : List ℕ) (place : ℕ) → 1 ≤ place → place < length ns
+    → numbers_text (take (place + 1) ns) ≡ numbers_text (take place ns) ++ 44 ∷ decimal (get_or ns place 0)
 more_text ns place some inside =
     let long : length (take place ns) ≡ place = length-take-le place ns (omega arith) in
     ap numbers_text (take_more ns place 0 inside) ∙ numbers_push (take place ns) (get_or ns place 0) (omega arith)
 
 -- a number is written after what was written so far
-pub goes_on : (old so_far new ns : List ℕ) (place n : ℕ) → so_far ≡ old ++ numbers_text (take place ns) → new ≡ (so_far ++ 44 ∷ []) ++ decimal n → n ≡ get_or ns place 0 → 1 ≤ place → place < length ns →
+pub goes_on : (old so_far new ns : List ℕ) (place n : ℕ) → so_far ≡ old ++ numbers_text (take place ns) → new ≡ (so_far ++ 44 ∷ []) ++ decimal n
+    → n ≡ get_or ns place 0 → 1 ≤ place → place < length ns →
     new ≡ old ++ numbers_text (take (place + 1) ns)
 goes_on old so_far new ns place n before e is some inside =
     e ∙ append_assoc so_far (44 ∷ []) (decimal n)

@@ -18,7 +18,8 @@ digits-more word i inside digits d =
     let value : digit_value (get_or word i 0) + 48 ≡ get_or word i 0 = digit_value_digit (get_or word i 0) d in
     digits_more 10 word i inside digits (let top = d.1 in omega arith)
 
-pub value-more : (word : List ℕ) (i : ℕ) → i < length word → IsInRange 48 57 (get_or word i 0) → digits_value 10 (take (i + 1) word) + 48 ≡ digits_value 10 (take i word) * 10 + get_or word i 0
+pub value-more : (word : List ℕ) (i : ℕ) → i < length word → IsInRange 48 57 (get_or word i 0)
+    → digits_value 10 (take (i + 1) word) + 48 ≡ digits_value 10 (take i word) * 10 + get_or word i 0
 value-more word i inside d =
     let value : digit_value (get_or word i 0) + 48 ≡ get_or word i 0 = digit_value_digit (get_or word i 0) d in
     let more : digits_value 10 (take (i + 1) word) ≡ digits_value 10 (take i word) * 10 + digit_value (get_or word i 0) = digits_value_more 10 word i inside in
@@ -47,7 +48,8 @@ number_of-zero [] e one = absurd (omega arith)
 pub number_of-spare_zero : (word : List ℕ) → get_or word 0 0 ≡ 48 → (length word ≡ 1 → ⊥) → number_of word ≡ None
 number_of-spare_zero word e long = number_of-none word (λ p. long (p.first e))
 
-pub number_of-digits : (word : List ℕ) (r : Option ℕ) → 0 < length word → (get_or word 0 0 ≡ 48 → ⊥) → IfSome r (λ value. value < 2 ^ 64) → MatchOption r (AllDigits 10 word → 2 ^ 64 ≤ digits_value 10 word) (λ value. AllDigits 10 word × (value ≡ digits_value 10 word)) → r ≡ number_of word
+pub number_of-digits : (word : List ℕ) (r : Option ℕ) → 0 < length word → (get_or word 0 0 ≡ 48 → ⊥) → IfSome r (λ value. value < 2 ^ 64)
+    → MatchOption r (AllDigits 10 word → 2 ^ 64 ≤ digits_value 10 word) (λ value. AllDigits 10 word × (value ≡ digits_value 10 word)) → r ≡ number_of word
 number_of-digits word None some first small h =
     sym (number_of-none word (λ p. let great : 2 ^ 64 ≤ digits_value 10 word = h p.digits in let small = p.small in omega arith))
 number_of-digits word (Some n) some first small h =

@@ -34,20 +34,23 @@ digit_of (b ∷ rest) h (suc zero) inside = record { value = b % 16; small = ome
 digit_of (b ∷ rest) h (suc (suc k)) inside = digit_of rest (All-tail (λ x. x < 256) b rest h) k (omega arith)
 
 -- a text with something else in a place
-pub no_digit : (len : ℕ) (text : List ℕ) (k : ℕ) → k < length text → ((d : ℕ) → d < 16 → get_or text k 0 ≡ slice_index lower_digits d → ⊥) → string_of_text len text ≡ None
+pub no_digit : (len : ℕ) (text : List ℕ) (k : ℕ) → k < length text → ((d : ℕ) → d < 16 → get_or text k 0 ≡ slice_index lower_digits d → ⊥)
+    → string_of_text len text ≡ None
 no_digit len text k inside other =
     nothing (string_of_text len text) (λ object e.
     let read = read_string len text object e in
     let d = digit_of object read.0.bytes k (subst (λ (t : List ℕ). k < length t) read.1 inside) in
     other d.value d.small (ap (λ t. get_or t k 0) read.1 ∙ d.is))
 
-encode_lower-push : (bytes : List ℕ) (b : ℕ) → encode_lower (bytes ++ b ∷ []) ≡ encode_lower bytes ++ slice_index lower_digits (b / 16) ∷ slice_index lower_digits (b % 16) ∷ []
+encode_lower-push : (bytes : List ℕ) (b : ℕ)
+    → encode_lower (bytes ++ b ∷ []) ≡ encode_lower bytes ++ slice_index lower_digits (b / 16) ∷ slice_index lower_digits (b % 16) ∷ []
 unfolding encode_with
 encode_lower-push [] b = refl
 encode_lower-push (x ∷ rest) b = ap (λ t. slice_index lower_digits (x / 16) ∷ slice_index lower_digits (x % 16) ∷ t) (encode_lower-push rest b)
 
 -- two more places of a text
-two_more : (text : List ℕ) (place : ℕ) → 2 * place + 1 < length text → take (2 * (place + 1)) text ≡ take (2 * place) text ++ get_or text (2 * place) 0 ∷ get_or text (2 * place + 1) 0 ∷ []
+two_more : (text : List ℕ) (place : ℕ) → 2 * place + 1 < length text
+    → take (2 * (place + 1)) text ≡ take (2 * place) text ++ get_or text (2 * place) 0 ∷ get_or text (2 * place + 1) 0 ∷ []
 two_more text place h =
     let next : 2 * (place + 1) ≡ 2 * place + 1 + 1 = omega arith in
     ap (λ k. take k text) next ∙ take_more text (2 * place + 1) 0 h

@@ -26,7 +26,8 @@ pub first_place-stays : (xs : List ℕ) (w : ℕ) → w ≤ greatest xs → firs
 first_place-stays [] w within = grind (arith, nat_tests)
 first_place-stays (x ∷ xs) w within = either (λ (below : w ≤ greatest xs). first_place-stays xs w below) (x == greatest (x ∷ xs)) refl
   where
-    either : (w ≤ greatest xs → first_place (greatest xs) (xs ++ w ∷ []) ≡ first_place (greatest xs) xs) → (b : Bool) → (x == greatest (x ∷ xs)) ≡ b → first_place (greatest (x ∷ xs)) ((x ∷ xs) ++ w ∷ []) ≡ first_place (greatest (x ∷ xs)) (x ∷ xs)
+    either : (w ≤ greatest xs → first_place (greatest xs) (xs ++ w ∷ []) ≡ first_place (greatest xs) xs) → (b : Bool) → (x == greatest (x ∷ xs)) ≡ b
+        → first_place (greatest (x ∷ xs)) ((x ∷ xs) ++ w ∷ []) ≡ first_place (greatest (x ∷ xs)) (x ∷ xs)
     either rest true is =
         let same : x ≡ greatest (x ∷ xs) = grind (arith, nat_tests) in
         first_place-at _ x (xs ++ w ∷ []) same ∙ sym (first_place-at _ x xs same)
@@ -37,7 +38,8 @@ first_place-stays (x ∷ xs) w within = either (λ (below : w ≤ greatest xs). 
         first_place-behind _ x (xs ++ w ∷ []) not ∙ ap suc behind ∙ sym (first_place-behind _ x xs not)
 
 -- a step of the pass
-pub step-rises : (xs : List ℕ) (i most : ℕ) → i < length xs → most ≡ greatest (take i xs) → most < get_or xs i 0 → (get_or xs i 0 ≡ greatest (take (i + 1) xs)) × (i ≡ first_place (get_or xs i 0) (take (i + 1) xs))
+pub step-rises : (xs : List ℕ) (i most : ℕ) → i < length xs → most ≡ greatest (take i xs) → most < get_or xs i 0 → (get_or xs i 0 ≡ greatest (take (i + 1) xs))
+    × (i ≡ first_place (get_or xs i 0) (take (i + 1) xs))
 step-rises xs i most inside is above =
     let more = take_more xs i 0 inside in
     let above' : greatest (take i xs) < get_or xs i 0 = omega arith in
@@ -48,7 +50,8 @@ step-rises xs i most inside is above =
       sym (ap (first_place (get_or xs i 0)) more ∙ place ∙ length-take-le i xs (omega arith)),
     )
 
-pub step-stays : (xs : List ℕ) (i most best : ℕ) → i < length xs → most ≡ greatest (take i xs) → best ≡ first_place most (take i xs) → get_or xs i 0 ≤ most → (most ≡ greatest (take (i + 1) xs)) × (best ≡ first_place most (take (i + 1) xs))
+pub step-stays : (xs : List ℕ) (i most best : ℕ) → i < length xs → most ≡ greatest (take i xs) → best ≡ first_place most (take i xs) → get_or xs i 0 ≤ most
+    → (most ≡ greatest (take (i + 1) xs)) × (best ≡ first_place most (take (i + 1) xs))
 step-stays xs i most best inside is at within =
     let more = take_more xs i 0 inside in
     let within' : get_or xs i 0 ≤ greatest (take i xs) = omega arith in
@@ -56,5 +59,6 @@ step-stays xs i most best inside is at within =
     let greatest_is : greatest (take i xs ++ get_or xs i 0 ∷ []) ≡ most = omega arith in
     let place = first_place-stays (take i xs) (get_or xs i 0) within' in (
       sym (ap greatest more ∙ greatest_is),
-      at ∙ ap (λ n. first_place n (take i xs)) is ∙ sym place ∙ ap (λ n. first_place n (take i xs ++ get_or xs i 0 ∷ [])) (sym is) ∙ ap (first_place most) (sym more),
+      at ∙ ap (λ n. first_place n (take i xs)) is ∙ sym place ∙ ap (λ n. first_place n (take i xs ++ get_or xs i 0 ∷ [])) (sym is)
+          ∙ ap (first_place most) (sym more),
     )

@@ -20,7 +20,8 @@ use Rattle.spb_defs.specs.ChoiceLaws.{greatest-cons, first_place-within, first_p
 use Rattle.pivot_choice.proofs.Passing.{updated_worth-none, range-more, set-rise}
 
 -- one more place of the choice
-pub chosen-more : (dist : List ℕ → List ℕ → ℕ) (samples : List (List ℕ)) (n : ℕ) → chosen_places dist samples (n + 1) ≡ chosen_places dist samples n ++ next_place dist samples (chosen_places dist samples n) ∷ []
+pub chosen-more : (dist : List ℕ → List ℕ → ℕ) (samples : List (List ℕ)) (n : ℕ)
+    → chosen_places dist samples (n + 1) ≡ chosen_places dist samples n ++ next_place dist samples (chosen_places dist samples n) ∷ []
 unfolding chosen_places
 chosen-more dist samples n = let e : n + 1 ≡ suc n = omega arith in ap (chosen_places dist samples) e
 
@@ -44,17 +45,21 @@ evals-most m (suc (suc n)) few =
 
 pub visits-more : (dist : List ℕ → List ℕ → ℕ) (samples : List (List ℕ)) (n : ℕ) →
     choice_visits dist samples (n + 2)
-    ≡ choice_visits dist samples (n + 1) ++ each_with (sample_at samples (next_place dist samples (chosen_places dist samples n))) (unchosen_samples samples (chosen_places dist samples (n + 1)))
+    ≡ choice_visits dist samples (n + 1) ++ each_with (sample_at samples (next_place dist samples (chosen_places dist samples n)))
+        (unchosen_samples samples (chosen_places dist samples (n + 1)))
 visits-more dist samples n =
     let e : n + 2 ≡ suc (suc n) = omega arith in
     let f : suc n ≡ n + 1 = omega arith in
     ap (choice_visits dist samples) e
-    ∙ ap (λ (k : ℕ). choice_visits dist samples k ++ each_with (sample_at samples (next_place dist samples (chosen_places dist samples n))) (unchosen_samples samples (chosen_places dist samples k))) f
+    ∙ ap (λ (k : ℕ). choice_visits dist samples k
+        ++ each_with (sample_at samples (next_place dist samples (chosen_places dist samples n))) (unchosen_samples samples (chosen_places dist samples k))) f
 
 -- the place to choose, by the worths
-pub next-by-worths : (dist : List ℕ → List ℕ → ℕ) (samples : List (List ℕ)) (chosen worths : List ℕ) → length worths ≡ length samples → ((k : ℕ) → k < length samples → get_or worths k 0 ≡ worth dist samples chosen k) → first_place (greatest worths) worths ≡ next_place dist samples chosen
+pub next-by-worths : (dist : List ℕ → List ℕ → ℕ) (samples : List (List ℕ)) (chosen worths : List ℕ) → length worths ≡ length samples
+    → ((k : ℕ) → k < length samples → get_or worths k 0 ≡ worth dist samples chosen k) → first_place (greatest worths) worths ≡ next_place dist samples chosen
 next-by-worths dist samples chosen worths same each =
-    let all : worths ≡ map (worth dist samples chosen) (range_with_len 0 (length samples)) = fill_by_all (worth dist samples chosen) worths (length samples) 0 same each in
+    let all : worths ≡ map (worth dist samples chosen) (range_with_len 0 (length samples)) =
+        fill_by_all (worth dist samples chosen) worths (length samples) 0 same each in
     ap (λ (ws : List ℕ). first_place (greatest ws) ws) all
 
 -- what a place is worth once one more is chosen
@@ -75,7 +80,8 @@ or-true false = refl
 
 pub worth-taken : (dist : List ℕ → List ℕ → ℕ) (samples : List (List ℕ)) (chosen : List ℕ) (c k : ℕ) → c ≡ k → worth dist samples (chosen ++ c ∷ []) k ≡ 0
 worth-taken dist samples chosen c k is =
-    let any = any-more chosen c k ∙ ap (λ (b : Bool). list_any (λ (other : ℕ). other == k) chosen || b) (same-number c k is) ∙ or-true (list_any (λ (other : ℕ). other == k) chosen) in
+    let any = any-more chosen c k ∙ ap (λ (b : Bool). list_any (λ (other : ℕ). other == k) chosen || b) (same-number c k is)
+        ∙ or-true (list_any (λ (other : ℕ). other == k) chosen) in
     let sum = sum_by (λ (other : ℕ). dist (sample_at samples other) (sample_at samples k)) (chosen ++ c ∷ []) in
     ap (λ (b : Bool). if b then 0 else 1 + sum) any
 
@@ -83,9 +89,11 @@ with-one-more : (a : Bool) (s d : ℕ) → (if a then 0 else 1 + (s + d)) ≡ (i
 with-one-more true s d = refl
 with-one-more false s d = grind (arith, nat_tests)
 
-pub worth-other : (dist : List ℕ → List ℕ → ℕ) (samples : List (List ℕ)) (chosen : List ℕ) (c k : ℕ) → c ≢ k → worth dist samples (chosen ++ c ∷ []) k ≡ updated_worth dist samples c k (worth dist samples chosen k)
+pub worth-other : (dist : List ℕ → List ℕ → ℕ) (samples : List (List ℕ)) (chosen : List ℕ) (c k : ℕ) → c ≢ k
+    → worth dist samples (chosen ++ c ∷ []) k ≡ updated_worth dist samples c k (worth dist samples chosen k)
 worth-other dist samples chosen c k differs =
-    let any = any-more chosen c k ∙ ap (λ (b : Bool). list_any (λ (other : ℕ). other == k) chosen || b) (other-number c k differs) ∙ or-false (list_any (λ (other : ℕ). other == k) chosen) in
+    let any = any-more chosen c k ∙ ap (λ (b : Bool). list_any (λ (other : ℕ). other == k) chosen || b) (other-number c k differs)
+        ∙ or-false (list_any (λ (other : ℕ). other == k) chosen) in
     let f = λ (other : ℕ). dist (sample_at samples other) (sample_at samples k) in
     let one : sum_by f (c ∷ []) ≡ f c = omega (arith, sum_by-cons f c []) in
     let sum : sum_by f (chosen ++ c ∷ []) ≡ sum_by f chosen + f c = sum_by-append f chosen (c ∷ []) ∙ ap (λ (n : ℕ). sum_by f chosen + n) one in
@@ -98,8 +106,10 @@ open-when : (a : Bool) (s : ℕ) → is_unchosen (if a then 0 else 1 + s) ≡ no
 open-when true s = refl
 open-when false s = grind (arith, nat_tests)
 
-pub worth-open : (dist : List ℕ → List ℕ → ℕ) (samples : List (List ℕ)) (chosen : List ℕ) (k : ℕ) → is_unchosen (worth dist samples chosen k) ≡ not (list_any (λ other. other == k) chosen)
-worth-open dist samples chosen k = open-when (list_any (λ (other : ℕ). other == k) chosen) (sum_by (λ (other : ℕ). dist (sample_at samples other) (sample_at samples k)) chosen)
+pub worth-open : (dist : List ℕ → List ℕ → ℕ) (samples : List (List ℕ)) (chosen : List ℕ) (k : ℕ)
+    → is_unchosen (worth dist samples chosen k) ≡ not (list_any (λ other. other == k) chosen)
+worth-open dist samples chosen k = open-when (list_any (λ (other : ℕ). other == k) chosen)
+    (sum_by (λ (other : ℕ). dist (sample_at samples other) (sample_at samples k)) chosen)
 
 updated_worth-open : (dist : List ℕ → List ℕ → ℕ) (samples : List (List ℕ)) (c k w : ℕ) → is_unchosen (updated_worth dist samples c k w) ≡ is_unchosen w
 updated_worth-open dist samples c k w = grind (arith, nat_tests)
@@ -113,11 +123,13 @@ count-first m = omega (arith, sum_by-replicate (λ (w : ℕ). cond (is_unchosen 
 
 count-taken : (worths : List ℕ) (c : ℕ) → c < length worths → 0 < get_or worths c 0 → count_by is_unchosen (set worths c 0) + 1 ≡ count_by is_unchosen worths
 count-taken worths c inside some =
-    let all : count_by is_unchosen (set worths c 0) + cond (is_unchosen (get_or worths c 0)) 1 0 ≡ count_by is_unchosen worths + cond (is_unchosen 0) 1 0 = sum_by-set (λ (w : ℕ). cond (is_unchosen w) 1 0) worths c 0 0 inside in
+    let all : count_by is_unchosen (set worths c 0) + cond (is_unchosen (get_or worths c 0)) 1 0 ≡ count_by is_unchosen worths + cond (is_unchosen 0) 1 0 =
+        sum_by-set (λ (w : ℕ). cond (is_unchosen w) 1 0) worths c 0 0 inside in
     let is : is_unchosen (get_or worths c 0) ≡ true = grind (arith, nat_tests) in
     ap (λ (b : Bool). count_by is_unchosen (set worths c 0) + cond b 1 0) (sym is) ∙ all ∙ omega arith
 
-count-same : (xs ys : List ℕ) → length xs ≡ length ys → ((k : ℕ) → k < length ys → is_unchosen (get_or xs k 0) ≡ is_unchosen (get_or ys k 0)) → count_by is_unchosen xs ≡ count_by is_unchosen ys
+count-same : (xs ys : List ℕ) → length xs ≡ length ys → ((k : ℕ) → k < length ys → is_unchosen (get_or xs k 0) ≡ is_unchosen (get_or ys k 0))
+    → count_by is_unchosen xs ≡ count_by is_unchosen ys
 count-same [] [] same each = refl
 count-same [] (y ∷ ys) same each = absurd (omega arith)
 count-same (x ∷ xs) [] same each = absurd (omega arith)
@@ -182,9 +194,11 @@ any-flip y (x ∷ xs) =
     let first : nat_eq y x ≡ (x == y) = grind (arith, nat_tests) in
     ap (λ (b : Bool). b || list_any (nat_eq y) xs) first ∙ ap (λ (b : Bool). (x == y) || b) (any-flip y xs)
 
-distinct-more : (dist : List ℕ → List ℕ → ℕ) (samples : List (List ℕ)) (chosen : List ℕ) (k : ℕ) → IsDistinct nat_eq chosen → 0 < worth dist samples chosen k → IsDistinct nat_eq (chosen ++ k ∷ [])
+distinct-more : (dist : List ℕ → List ℕ → ℕ) (samples : List (List ℕ)) (chosen : List ℕ) (k : ℕ) → IsDistinct nat_eq chosen → 0 < worth dist samples chosen k
+    → IsDistinct nat_eq (chosen ++ k ∷ [])
 distinct-more dist samples chosen k distinct some =
-    let new = not-chosen-when (list_any (λ (other : ℕ). other == k) chosen) (sum_by (λ (other : ℕ). dist (sample_at samples other) (sample_at samples k)) chosen) some in
+    let new = not-chosen-when (list_any (λ (other : ℕ). other == k) chosen)
+        (sum_by (λ (other : ℕ). dist (sample_at samples other) (sample_at samples k)) chosen) some in
     IsDistinct-push nat_eq_equiv chosen k distinct (any-flip k chosen ∙ new)
 
 -- from what is known of the worths and of the best of them
@@ -206,7 +220,8 @@ chosen-by dist samples before worths places front chosen room same each low open
     let place = first_place-within worths some in
     let inside : chosen < length samples = omega arith in
     let holds : get_or worths chosen 0 ≡ greatest worths = ap (λ (k : ℕ). get_or worths k 0) best ∙ first_place-holds worths in
-    let front_worth : get_or worths chosen 0 ≡ worth dist samples front chosen = each chosen inside ∙ ap (λ (cs : List ℕ). worth dist samples cs chosen) (sym front_is) in
+    let front_worth : get_or worths chosen 0 ≡ worth dist samples front chosen = each chosen inside
+        ∙ ap (λ (cs : List ℕ). worth dist samples cs chosen) (sym front_is) in
     record {
       same_length = same;
       each = each;
@@ -215,14 +230,19 @@ chosen-by dist samples before worths places front chosen room same each low open
       is_next = next;
       within = inside;
       still = omega arith;
-      places_are = more ∙ ap (λ (ps : List ℕ). ps ++ chosen ∷ []) front_is ∙ ap (λ (c : ℕ). chosen_places dist samples before ++ c ∷ []) next ∙ sym (chosen-more dist samples before);
+      places_are = more ∙ ap (λ (ps : List ℕ). ps ++ chosen ∷ []) front_is ∙ ap (λ (c : ℕ). chosen_places dist samples before ++ c ∷ []) next
+          ∙ sym (chosen-more dist samples before);
       distinct = subst (IsDistinct nat_eq) (sym more) (distinct-more dist samples front chosen distinct (omega arith));
     }
 
-pub Choosing-start : (dist : List ℕ → List ℕ → ℕ) (samples : List (List ℕ)) (worths places : List ℕ) (chosen : ℕ) → 0 < length samples → worths ≡ replicate (length samples) 1 → chosen ≡ first_place (greatest worths) worths → places ≡ chosen ∷ [] → Choosing dist samples 0 worths places chosen
+pub Choosing-start : (dist : List ℕ → List ℕ → ℕ) (samples : List (List ℕ)) (worths places : List ℕ) (chosen : ℕ) → 0 < length samples
+    → worths ≡ replicate (length samples) 1 → chosen ≡ first_place (greatest worths) worths → places ≡ chosen ∷ []
+    → Choosing dist samples 0 worths places chosen
 Choosing-start dist samples worths places chosen some ones best more =
-    let each : (k : ℕ) → k < length samples → get_or worths k 0 ≡ 1 = λ (k : ℕ) (below : k < length samples). ap (λ (ws : List ℕ). get_or ws k 0) ones ∙ get_or-replicate (length samples) k 1 0 below in
-    let worth_is : (k : ℕ) → worth dist samples (chosen_places dist samples 0) k ≡ 1 = λ (k : ℕ). ap (λ (cs : List ℕ). worth dist samples cs k) (chosen-none dist samples) in
+    let each : (k : ℕ) → k < length samples → get_or worths k 0 ≡ 1 = λ (k : ℕ) (below : k < length samples). ap (λ (ws : List ℕ). get_or ws k 0) ones
+        ∙ get_or-replicate (length samples) k 1 0 below in
+    let worth_is : (k : ℕ) → worth dist samples (chosen_places dist samples 0) k ≡ 1 =
+        λ (k : ℕ). ap (λ (cs : List ℕ). worth dist samples cs k) (chosen-none dist samples) in
     let count : count_by is_unchosen worths ≡ length samples = ap (count_by is_unchosen) ones ∙ count-first (length samples) in
     chosen-by dist samples 0 worths places [] chosen some (ap length ones ∙ length-replicate (length samples) 1)
     (λ (k : ℕ) (below : k < length samples). each k below ∙ sym (worth_is k))
@@ -230,19 +250,24 @@ Choosing-start dist samples worths places chosen some ones best more =
     (omega arith) best (sym (chosen-none dist samples)) none-distinct more
 
 -- what the places are worth once the chosen one is taken out and its distances are added
-pub taken : (dist : List ℕ → List ℕ → ℕ) (samples : List (List ℕ)) (before : ℕ) (worths places : List ℕ) (chosen : ℕ) → Choosing dist samples before worths places chosen → (k : ℕ) → k < length samples → updated_worth dist samples chosen k (get_or (set worths chosen 0) k 0) ≡ worth dist samples (chosen_places dist samples (before + 1)) k
+pub taken : (dist : List ℕ → List ℕ → ℕ) (samples : List (List ℕ)) (before : ℕ) (worths places : List ℕ) (chosen : ℕ)
+    → Choosing dist samples before worths places chosen → (k : ℕ) → k < length samples
+    → updated_worth dist samples chosen k (get_or (set worths chosen 0) k 0) ≡ worth dist samples (chosen_places dist samples (before + 1)) k
 taken dist samples before worths places chosen kept k below = either (chosen == k) refl
   where
     front : List ℕ
     front = chosen_places dist samples before
 
     after : worth dist samples (chosen_places dist samples (before + 1)) k ≡ worth dist samples (chosen_places dist samples before ++ chosen ∷ []) k
-    after = ap (λ (cs : List ℕ). worth dist samples cs k) (chosen-more dist samples before ∙ ap (λ (c : ℕ). chosen_places dist samples before ++ c ∷ []) (sym kept.is_next))
+    after = ap (λ (cs : List ℕ). worth dist samples cs k) (chosen-more dist samples before
+        ∙ ap (λ (c : ℕ). chosen_places dist samples before ++ c ∷ []) (sym kept.is_next))
 
-    either : (b : Bool) → (chosen == k) ≡ b → updated_worth dist samples chosen k (get_or (set worths chosen 0) k 0) ≡ worth dist samples (chosen_places dist samples (before + 1)) k
+    either : (b : Bool) → (chosen == k) ≡ b
+        → updated_worth dist samples chosen k (get_or (set worths chosen 0) k 0) ≡ worth dist samples (chosen_places dist samples (before + 1)) k
     either true is =
         let same : chosen ≡ k = grind (arith, nat_tests) in
-        let none : get_or (set worths chosen 0) k 0 ≡ 0 = ap (λ (j : ℕ). get_or (set worths chosen 0) j 0) (sym same) ∙ get_or-set_same worths chosen 0 0 (omega (arith, kept.same_length, kept.within)) in
+        let none : get_or (set worths chosen 0) k 0 ≡ 0 = ap (λ (j : ℕ). get_or (set worths chosen 0) j 0) (sym same)
+            ∙ get_or-set_same worths chosen 0 0 (omega (arith, kept.same_length, kept.within)) in
         updated_worth-none dist samples chosen k _ none ∙ sym (after ∙ worth-taken dist samples front chosen k same)
     either false is =
         let differs : chosen ≢ k = λ (e : chosen ≡ k). grind (arith, nat_tests) in
@@ -250,14 +275,17 @@ taken dist samples before worths places chosen kept k below = either (chosen == 
         let as_before : get_or (set worths chosen 0) k 0 ≡ worth dist samples front k = get_or-set_other worths chosen k 0 0 apart ∙ kept.each k below in
         ap (updated_worth dist samples chosen k) as_before ∙ sym (after ∙ worth-other dist samples front chosen k differs)
 
-pub others : (dist : List ℕ → List ℕ → ℕ) (samples : List (List ℕ)) (before : ℕ) (worths places : List ℕ) (chosen : ℕ) → Choosing dist samples before worths places chosen → unchosen_among_first (set worths chosen 0) samples (length samples) ≡ unchosen_samples samples (chosen_places dist samples (before + 1))
+pub others : (dist : List ℕ → List ℕ → ℕ) (samples : List (List ℕ)) (before : ℕ) (worths places : List ℕ) (chosen : ℕ)
+    → Choosing dist samples before worths places chosen
+    → unchosen_among_first (set worths chosen 0) samples (length samples) ≡ unchosen_samples samples (chosen_places dist samples (before + 1))
 others dist samples before worths places chosen kept =
     let after = chosen_places dist samples (before + 1) in
     let each = λ (k : ℕ) (below : k < length samples).
     sym (updated_worth-open dist samples chosen k (get_or (set worths chosen 0) k 0))
     ∙ ap is_unchosen (taken dist samples before worths places chosen kept k below)
     ∙ worth-open dist samples after k in
-    ap (map (sample_at samples)) (filter-same (λ (k : ℕ). is_unchosen (get_or (set worths chosen 0) k 0)) (λ (k : ℕ). not (list_any (λ (other : ℕ). other == k) after)) (length samples) each)
+    ap (map (sample_at samples)) (filter-same (λ (k : ℕ). is_unchosen (get_or (set worths chosen 0) k 0))
+        (λ (k : ℕ). not (list_any (λ (other : ℕ). other == k) after)) (length samples) each)
 
 pub Choosing-more : (dist : List ℕ → List ℕ → ℕ) (samples : List (List ℕ)) (before : ℕ) (worths places : List ℕ) (chosen : ℕ) (after more : List ℕ) (next : ℕ) →
     Choosing dist samples before worths places chosen →
@@ -285,7 +313,9 @@ Choosing-more dist samples before worths places chosen after more next kept room
     (omega arith) best kept.places_are kept.distinct more_is
 
 -- how many distances the pass measures
-pub count-pass : (dist : List ℕ → List ℕ → ℕ) (samples : List (List ℕ)) (before : ℕ) (worths places : List ℕ) (chosen : ℕ) → Choosing dist samples before worths places chosen → choice_evals (length samples) (before + 1) + count_by is_unchosen (set worths chosen 0) ≡ choice_evals (length samples) (before + 1 + 1)
+pub count-pass : (dist : List ℕ → List ℕ → ℕ) (samples : List (List ℕ)) (before : ℕ) (worths places : List ℕ) (chosen : ℕ)
+    → Choosing dist samples before worths places chosen
+    → choice_evals (length samples) (before + 1) + count_by is_unchosen (set worths chosen 0) ≡ choice_evals (length samples) (before + 1 + 1)
 count-pass dist samples before worths places chosen kept =
     let inside : chosen < length worths = omega (arith, kept.same_length, kept.within) in
     let one_less = count-taken worths chosen inside kept.still in
@@ -295,7 +325,8 @@ count-pass dist samples before worths places chosen kept =
     omega arith
 
 -- and which
-pub visits-pass : (dist : List ℕ → List ℕ → ℕ) (samples : List (List ℕ)) (before : ℕ) (worths places : List ℕ) (chosen : ℕ) → Choosing dist samples before worths places chosen →
+pub visits-pass : (dist : List ℕ → List ℕ → ℕ) (samples : List (List ℕ)) (before : ℕ) (worths places : List ℕ) (chosen : ℕ)
+    → Choosing dist samples before worths places chosen →
     choice_visits dist samples (before + 1) ++ each_with (sample_at samples chosen) (unchosen_among_first (set worths chosen 0) samples (length samples))
     ≡ choice_visits dist samples (before + 1 + 1)
 visits-pass dist samples before worths places chosen kept =

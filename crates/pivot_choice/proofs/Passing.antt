@@ -10,22 +10,27 @@ use Rattle.metric_laws.specs.Log.{each_with}
 use Rattle.spb_defs.specs.Choice.{sample_at}
 use Rattle.pivot_choice.specs.Worths.{is_unchosen, updated_worth, unchosen_among_first}
 
-pub updated_worth-none : (dist : List ℕ → List ℕ → ℕ) (samples : List (List ℕ)) (chosen place worth : ℕ) → worth ≡ 0 → updated_worth dist samples chosen place worth ≡ 0
+pub updated_worth-none : (dist : List ℕ → List ℕ → ℕ) (samples : List (List ℕ)) (chosen place worth : ℕ) → worth ≡ 0
+    → updated_worth dist samples chosen place worth ≡ 0
 updated_worth-none dist samples chosen place worth none = grind (arith, nat_tests)
 
-pub updated_worth-some : (dist : List ℕ → List ℕ → ℕ) (samples : List (List ℕ)) (chosen place worth : ℕ) → 0 < worth → updated_worth dist samples chosen place worth ≡ worth + dist (sample_at samples chosen) (sample_at samples place)
+pub updated_worth-some : (dist : List ℕ → List ℕ → ℕ) (samples : List (List ℕ)) (chosen place worth : ℕ) → 0 < worth
+    → updated_worth dist samples chosen place worth ≡ worth + dist (sample_at samples chosen) (sample_at samples place)
 updated_worth-some dist samples chosen place worth some = grind (arith, nat_tests)
 
 -- a value that is written at a place
-pub set-passed : (f : ℕ → ℕ) (xs : List ℕ) (i v : ℕ) → i < length xs → v ≡ f i → ((k : ℕ) → k < i → get_or xs k 0 ≡ f k) → (k : ℕ) → k < i + 1 → get_or (set xs i v) k 0 ≡ f k
+pub set-passed : (f : ℕ → ℕ) (xs : List ℕ) (i v : ℕ) → i < length xs → v ≡ f i → ((k : ℕ) → k < i → get_or xs k 0 ≡ f k) → (k : ℕ) → k < i + 1
+    → get_or (set xs i v) k 0 ≡ f k
 set-passed f xs i v inside is passed k below = ap (λ (w : ℕ). get_or (set xs i w) k 0) is ∙ fill_by_more f xs i 0 inside passed k below
 
-pub set-ahead : (xs old : List ℕ) (i v : ℕ) → ((k : ℕ) → i ≤ k → get_or xs k 0 ≡ get_or old k 0) → (k : ℕ) → i + 1 ≤ k → get_or (set xs i v) k 0 ≡ get_or old k 0
+pub set-ahead : (xs old : List ℕ) (i v : ℕ) → ((k : ℕ) → i ≤ k → get_or xs k 0 ≡ get_or old k 0) → (k : ℕ) → i + 1 ≤ k
+    → get_or (set xs i v) k 0 ≡ get_or old k 0
 set-ahead xs old i v ahead k above =
     let other : k ≢ i = λ (e : k ≡ i). omega arith in
     get_or-set_other xs i k v 0 other ∙ ahead k (omega arith)
 
-pub set-rise : (xs old : List ℕ) (i v most : ℕ) → i < length xs → v ≤ get_or old i 0 + most → ((k : ℕ) → get_or xs k 0 ≤ get_or old k 0 + most) → (k : ℕ) → get_or (set xs i v) k 0 ≤ get_or old k 0 + most
+pub set-rise : (xs old : List ℕ) (i v most : ℕ) → i < length xs → v ≤ get_or old i 0 + most → ((k : ℕ) → get_or xs k 0 ≤ get_or old k 0 + most) → (k : ℕ)
+    → get_or (set xs i v) k 0 ≤ get_or old k 0 + most
 set-rise xs old i v most inside low rise k = either (k == i) refl
   where
     either : (b : Bool) → (k == i) ≡ b → get_or (set xs i v) k 0 ≤ get_or old k 0 + most
@@ -65,17 +70,20 @@ filter-more-yes p i passes =
     ap (filter p) (range-more i) ∙ filter-append p (range_with_len 0 i) (i ∷ []) ∙ ap (λ (ks : List ℕ). filter p (range_with_len 0 i) ++ ks) last
 
 -- one more place, that is worth nothing
-pub open-none : (old : List ℕ) (samples : List (List ℕ)) (i : ℕ) → get_or old i 0 ≡ 0 → unchosen_among_first old samples i ≡ unchosen_among_first old samples (i + 1)
+pub open-none : (old : List ℕ) (samples : List (List ℕ)) (i : ℕ) → get_or old i 0 ≡ 0
+    → unchosen_among_first old samples i ≡ unchosen_among_first old samples (i + 1)
 open-none old samples i none =
     let fails : is_unchosen (get_or old i 0) ≡ false = grind (arith, nat_tests) in
     ap (map (sample_at samples)) (sym (filter-more-no (λ (place : ℕ). is_unchosen (slice_index old place)) i fails))
 
 -- one more place, that is worth something
-pub open-some : (old : List ℕ) (samples : List (List ℕ)) (from : List ℕ) (i : ℕ) → 0 < get_or old i 0 → each_with from (unchosen_among_first old samples i) ++ (from, sample_at samples i) ∷ [] ≡ each_with from (unchosen_among_first old samples (i + 1))
+pub open-some : (old : List ℕ) (samples : List (List ℕ)) (from : List ℕ) (i : ℕ) → 0 < get_or old i 0
+    → each_with from (unchosen_among_first old samples i) ++ (from, sample_at samples i) ∷ [] ≡ each_with from (unchosen_among_first old samples (i + 1))
 open-some old samples from i some =
     let passes : is_unchosen (get_or old i 0) ≡ true = grind (arith, nat_tests) in
     let places = filter-more-yes (λ (place : ℕ). is_unchosen (slice_index old place)) i passes in
-    let objects = ap (map (sample_at samples)) places ∙ map-append (sample_at samples) (filter (λ (place : ℕ). is_unchosen (slice_index old place)) (range_with_len 0 i)) (i ∷ []) in
+    let objects = ap (map (sample_at samples)) places
+        ∙ map-append (sample_at samples) (filter (λ (place : ℕ). is_unchosen (slice_index old place)) (range_with_len 0 i)) (i ∷ []) in
     sym (ap (each_with from) objects ∙ map-append (λ (other : List ℕ). (from, other)) (unchosen_among_first old samples i) (sample_at samples i ∷ []))
 
 pub count-none : (old : List ℕ) (i : ℕ) → i < length old → get_or old i 0 ≡ 0 → count_by is_unchosen (take (i + 1) old) ≡ count_by is_unchosen (take i old)

@@ -107,10 +107,12 @@ fn add_distances<R: Ruler>(ruler: &mut R, sample: &[Bytes], chosen: usize, worth
     requires objects { All (R.admitted (R.kind ruler.old)) sample.now }
     requires room { R.count ruler.old + length sample.now < 2 ^ 64 }
     ensures length { length worths.new ≡ length worths.old }
-    ensures worths { EachIndex worths.new (λ place. slice_index worths.new place ≡ updated_worth (R.dist (R.kind ruler.old)) sample.now chosen place (slice_index worths.old place)) }
+    ensures worths { EachIndex worths.new
+        (λ place. slice_index worths.new place ≡ updated_worth (R.dist (R.kind ruler.old)) sample.now chosen place (slice_index worths.old place)) }
     ensures rise { EachIndex worths.new (λ place. slice_index worths.new place ≤ slice_index worths.old place + 4294967295) }
     ensures count { R.count ruler.new ≡ R.count ruler.old + count_by is_unchosen worths.old }
-    ensures log { LogExtends (R.log ruler.old) (R.log ruler.new) (each_with (sample_at sample.now chosen) (unchosen_among_first worths.old sample.now (length sample.now))) }
+    ensures log { LogExtends (R.log ruler.old) (R.log ruler.new)
+        (each_with (sample_at sample.now chosen) (unchosen_among_first worths.old sample.now (length sample.now))) }
     ensures kind { R.kind ruler.new ≡ R.kind ruler.old }
 {
     let from = sample[chosen].as_slice();

@@ -35,7 +35,8 @@ greater-within x y most h k = grind (arith, nat_tests)
 
 -- ---- all coordinates
 
-within_meets : (admitted : Object → Type 0) (dist : Distance) → BoundByPivots admitted dist → (pivots : List Object) → All admitted pivots → (a b : Object) (radius : ℕ) → admitted a → admitted b → dist a b ≤ radius → meets (vector_of dist pivots a) radius (cells_of dist pivots b) ≡ true
+within_meets : (admitted : Object → Type 0) (dist : Distance) → BoundByPivots admitted dist → (pivots : List Object) → All admitted pivots
+    → (a b : Object) (radius : ℕ) → admitted a → admitted b → dist a b ≤ radius → meets (vector_of dist pivots a) radius (cells_of dist pivots b) ≡ true
 within_meets admitted dist m [] all a b radius f g h = refl
 within_meets admitted dist m (p ∷ ps) all a b radius f g h =
     let apart : abs_diff (dist a p) (dist b p) ≤ dist a b = m.lower a b p f g (All-head admitted p ps all) in
@@ -48,7 +49,8 @@ one-of : (first rest : Bool) (P : Type 0) → (first || rest) ≡ true → (firs
 one-of true rest P h f g = f refl
 one-of false rest P h f g = g h
 
-sure_within : (admitted : Object → Type 0) (dist : Distance) → BoundByPivots admitted dist → (pivots : List Object) → All admitted pivots → (a b : Object) (radius : ℕ) → admitted a → admitted b → is_sure (vector_of dist pivots a) radius (cells_of dist pivots b) ≡ true → dist a b ≤ radius
+sure_within : (admitted : Object → Type 0) (dist : Distance) → BoundByPivots admitted dist → (pivots : List Object) → All admitted pivots
+    → (a b : Object) (radius : ℕ) → admitted a → admitted b → is_sure (vector_of dist pivots a) radius (cells_of dist pivots b) ≡ true → dist a b ≤ radius
 sure_within admitted dist m [] all a b radius f g h = absurd (let none : false ≡ true = h in cc)
 sure_within admitted dist m (p ∷ ps) all a b radius f g h =
     let round : dist a b ≤ dist a p + dist b p = m.upper a b p f g (All-head admitted p ps all) in
@@ -56,14 +58,16 @@ sure_within admitted dist m (p ∷ ps) all a b radius f g h =
     (λ first. omega (arith, round, sum-within (dist a p) (dist b p) radius first))
     (λ rest. sure_within admitted dist m ps (All-tail admitted p ps all) a b radius f g rest)
 
-bound_below : (admitted : Object → Type 0) (dist : Distance) → BoundByPivots admitted dist → (pivots : List Object) → All admitted pivots → (a b : Object) → admitted a → admitted b → lower_bound (vector_of dist pivots a) (cells_of dist pivots b) ≤ dist a b
+bound_below : (admitted : Object → Type 0) (dist : Distance) → BoundByPivots admitted dist → (pivots : List Object) → All admitted pivots → (a b : Object)
+    → admitted a → admitted b → lower_bound (vector_of dist pivots a) (cells_of dist pivots b) ≤ dist a b
 bound_below admitted dist m [] all a b f g = omega arith
 bound_below admitted dist m (p ∷ ps) all a b f g =
     greater-within (gap (dist a p) (dist b p)) (lower_bound (vector_of dist ps a) (cells_of dist ps b)) (dist a b)
     (m.lower a b p f g (All-head admitted p ps all))
     (bound_below admitted dist m ps (All-tail admitted p ps all) a b f g)
 
-pub bounds_hold : (admitted : Object → Type 0) (dist : Distance) → IsDistance admitted dist → (pivots : List Object) → All admitted pivots → BoundsHold admitted dist pivots
+pub bounds_hold : (admitted : Object → Type 0) (dist : Distance) → IsDistance admitted dist → (pivots : List Object) → All admitted pivots
+    → BoundsHold admitted dist pivots
 bounds_hold admitted dist laws pivots all =
     let m = bound_by_distance admitted dist laws in
     record {

@@ -24,20 +24,23 @@ pair-tells a b radius = tells-of (pair_meets a radius b) (pair_is_sure a radius 
 -- the verdict on two objects is the same both ways
 pub pair_verdict-symmetric : (a b : Object) (radius : ℕ) → pair_verdict a radius b ≡ pair_verdict b radius a
 pair_verdict-symmetric a b radius =
-    ap (λ met. verdict met (pair_is_sure a radius b)) (pair_meets-symmetric a b radius) ∙ ap (λ sure. verdict (pair_meets b radius a) sure) (pair_is_sure-symmetric a b radius)
+    ap (λ met. verdict met (pair_is_sure a radius b)) (pair_meets-symmetric a b radius)
+        ∙ ap (λ sure. verdict (pair_meets b radius a) sure) (pair_is_sure-symmetric a b radius)
 
 -- ---- what the verdict says of the distance
 
 further : (radius distance : ℕ) → (distance ≤ radius → ⊥) → radius < distance
 further radius distance h = omega arith
 
-settles-by : (distance radius : ℕ) (told : PairTest) (met sure : Bool) → IsTestOf told met sure → (distance ≤ radius → met ≡ true) → (sure ≡ true → distance ≤ radius) → IsSoundTest told distance radius
+settles-by : (distance radius : ℕ) (told : PairTest) (met sure : Bool) → IsTestOf told met sure → (distance ≤ radius → met ≡ true)
+    → (sure ≡ true → distance ≤ radius) → IsSoundTest told distance radius
 settles-by distance radius Apart met sure t f g = further radius distance (λ h. let clash : false ≡ true = sym t ∙ f h in cc)
 settles-by distance radius Open met sure t f g = tt
 settles-by distance radius Sure met sure (m, s) f g = g s
 
 -- the verdict on a query and an object is true of their distance
-pub query_settles : (admitted : Object → Type 0) (dist : Distance) (pivots : List Object) → BoundsHold admitted dist pivots → (q o : Object) (radius : ℕ) → admitted q → admitted o
+pub query_settles : (admitted : Object → Type 0) (dist : Distance) (pivots : List Object) → BoundsHold admitted dist pivots → (q o : Object) (radius : ℕ)
+    → admitted q → admitted o
     → IsSoundTest (query_verdict (vector_of dist pivots q) radius (cells_of dist pivots o)) (dist q o) radius
 query_settles admitted dist pivots bounds q o radius f g =
     let asked = vector_of dist pivots q in
@@ -47,7 +50,8 @@ query_settles admitted dist pivots bounds q o radius f g =
     (bounds.sure_within q o radius f g)
 
 -- and the verdict on two objects of theirs
-pub pair_settles : (admitted : Object → Type 0) (dist : Distance) (pivots : List Object) → BoundsHold admitted dist pivots → (a b : Object) (radius : ℕ) → admitted a → admitted b
+pub pair_settles : (admitted : Object → Type 0) (dist : Distance) (pivots : List Object) → BoundsHold admitted dist pivots → (a b : Object) (radius : ℕ)
+    → admitted a → admitted b
     → IsSoundTest (pair_verdict (cells_of dist pivots a) radius (cells_of dist pivots b)) (dist a b) radius
 pair_settles admitted dist pivots bounds a b radius f g =
     let x = cells_of dist pivots a in

@@ -13,7 +13,8 @@ pub record PassesOver {A K : Type 0} (verdict : A → Verdict) (name : A → K) 
   pub sure : after.sure ≡ before.sure + count_by (λ a. was_sure (verdict a)) passed
 
 -- Meanwhile the objects of those that were measured were measured, and counted.
-pub record MeasuresOpen {A : Type 0} (verdict : A → Verdict) (objects : A → MeasuredPair) (passed : List A) (count : ℕ) (log : Option (List MeasuredPair)) (count' : ℕ) (log' : Option (List MeasuredPair)) : Type 0 where
+pub record MeasuresOpen {A : Type 0} (verdict : A → Verdict) (objects : A
+    → MeasuredPair) (passed : List A) (count : ℕ) (log : Option (List MeasuredPair)) (count' : ℕ) (log' : Option (List MeasuredPair)) : Type 0 where
   pub counted : count' ≡ count + count_by (λ a. was_measured (verdict a)) passed
   pub logged : LogExtends log log' (map objects (filter (λ a. was_measured (verdict a)) passed))
 

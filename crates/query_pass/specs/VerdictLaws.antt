@@ -17,13 +17,15 @@ never : (within met : Bool) → (within ≡ true → met ≡ true) → met ≡ f
 never false met near far = refl
 never true met near far = sym (sym (near refl) ∙ far)
 
-within_of : (test : PairTest) (met sure within : Bool) → IsTestOf test met sure → (within ≡ true → met ≡ true) → (sure ≡ true → within ≡ true) → is_within (verdict_of test within) ≡ within
+within_of : (test : PairTest) (met sure within : Bool) → IsTestOf test met sure → (within ≡ true → met ≡ true) → (sure ≡ true → within ≡ true)
+    → is_within (verdict_of test within) ≡ within
 within_of Apart met sure within tells near safe = never within met near tells
 within_of Open met sure within tells near safe = refl
 within_of Sure met sure within tells near safe = sym (safe tells.1)
 
 -- the verdict is within exactly if the objects are, if objects within the radius meet and sure ones are within it
-pub verdict-within : (test : PairTest) (met sure : Bool) (distance radius : ℕ) → IsTestOf test met sure → (distance ≤ radius → met ≡ true) → (sure ≡ true → distance ≤ radius) → is_within (verdict_of test (nat_le distance radius)) ≡ nat_le distance radius
+pub verdict-within : (test : PairTest) (met sure : Bool) (distance radius : ℕ) → IsTestOf test met sure → (distance ≤ radius → met ≡ true)
+    → (sure ≡ true → distance ≤ radius) → is_within (verdict_of test (nat_le distance radius)) ≡ nat_le distance radius
 verdict-within test met sure distance radius tells near safe =
     within_of test met sure (nat_le distance radius) tells (λ within. near (le_from distance radius within)) (λ h. le_to distance radius (safe h))
 

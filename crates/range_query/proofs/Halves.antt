@@ -53,8 +53,10 @@ quartered a b c d whole h =
 apart : (a : Entry) (rows left : List Entry) → IsPermutation (flat_map (above (a ∷ rows)) left) (flat_map (above (a ∷ [])) left ++ flat_map (above rows) left)
 apart a rows [] = IsPermutation-refl []
 apart a rows (c ∷ left) =
-    subst (λ (ps : Pairs). IsPermutation (ps ++ flat_map (above (a ∷ rows)) left) (flat_map (above (a ∷ [])) (c ∷ left) ++ flat_map (above rows) (c ∷ left))) (sym (above-cons a rows c))
-    (quartered (above (a ∷ []) c) (above rows c) (flat_map (above (a ∷ [])) left) (flat_map (above rows) left) (flat_map (above (a ∷ rows)) left) (apart a rows left))
+    subst (λ (ps : Pairs). IsPermutation (ps ++ flat_map (above (a ∷ rows)) left) (flat_map (above (a ∷ [])) (c ∷ left) ++ flat_map (above rows) (c ∷ left)))
+        (sym (above-cons a rows c))
+    (quartered (above (a ∷ []) c) (above rows c) (flat_map (above (a ∷ [])) left) (flat_map (above rows) left) (flat_map (above (a ∷ rows)) left)
+        (apart a rows left))
 
 -- no row rises to itself
 never : (n : ℕ) → nat_lt n n ≡ false
@@ -72,7 +74,8 @@ facing_if true true p q ups downs turns other h = cc
 facing_if false false p q ups downs turns other h = cc
 
 -- those that rise from a row to the others, and those that rise from the others to it
-facing : (a : Entry) (rows : List Entry) → All (λ (c : Entry). a.0 ≢ c.0) rows → IsPermutation (above rows a ++ flat_map (above (a ∷ [])) rows) (map (turned true a) rows)
+facing : (a : Entry) (rows : List Entry) → All (λ (c : Entry). a.0 ≢ c.0) rows
+    → IsPermutation (above rows a ++ flat_map (above (a ∷ [])) rows) (map (turned true a) rows)
 facing a [] all = IsPermutation-refl []
 facing a (c ∷ rows) all =
     facing_if (nat_lt a.0 c.0) (nat_lt c.0 a.0) (a, c) (c, a) (above rows a) (flat_map (above (a ∷ [])) rows) (map (turned true a) rows)
@@ -84,7 +87,8 @@ abbrev pub AreDistinct : List Entry → Type 0
 AreDistinct [] = Unit {0}
 AreDistinct (a ∷ rows) = All (λ (c : Entry). a.0 ≢ c.0) rows × AreDistinct rows
 
-parts_moved : (first rest others turns more : Pairs) → IsPermutation rest (others ++ more) → IsPermutation (first ++ others) turns → (end : Pairs) → IsPermutation more end → IsPermutation (first ++ rest) (turns ++ end)
+parts_moved : (first rest others turns more : Pairs) → IsPermutation rest (others ++ more) → IsPermutation (first ++ others) turns → (end : Pairs)
+    → IsPermutation more end → IsPermutation (first ++ rest) (turns ++ end)
 parts_moved first rest others turns more a b end c =
     IsPermutation-trans _ _ _ (IsPermutation-append_right first rest (others ++ more) a)
     (subst (λ (ps : Pairs). IsPermutation ps (turns ++ end)) (append_assoc first others more) (IsPermutation-append (first ++ others) turns more end b c))
@@ -102,8 +106,10 @@ product-turned [] right = refl
 product-turned (a ∷ left) right = ap (λ ps. with_all a right ++ ps) (product-turned left right)
 
 -- the pairs that a join looks at
-pub considered_pairs-turned : (same : Bool) (left right : List Entry) → (same ≡ true → left ≡ right) → AreDistinct left → IsPermutation (considered_pairs same left right) (turned_all same left right)
+pub considered_pairs-turned : (same : Bool) (left right : List Entry) → (same ≡ true → left ≡ right) → AreDistinct left
+    → IsPermutation (considered_pairs same left right) (turned_all same left right)
 considered_pairs-turned true left right one distinct =
     subst (λ (rows : List Entry). IsPermutation (filter rises (product left rows)) (turned_all true left right)) (one refl)
     (subst (λ ps. IsPermutation ps (turned_all true left right)) (sym (filter-flat left left)) (rising-turned left right distinct))
-considered_pairs-turned false left right one distinct = subst (IsPermutation (product left right)) (product-turned left right) (IsPermutation-refl (product left right))
+considered_pairs-turned false left right one distinct =
+    subst (IsPermutation (product left right)) (product-turned left right) (IsPermutation-refl (product left right))

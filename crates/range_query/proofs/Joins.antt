@@ -24,11 +24,13 @@ use Rattle.range_query.proofs.Halves.{turned, turned_all, AreDistinct, considere
 
 -- ---- rows and their entries
 
-turned_if : (b : Bool) (left right : Row) → pair_entries (if b then (right, left) else (left, right)) ≡ (if b then (entry_of right, entry_of left) else (entry_of left, entry_of right))
+turned_if : (b : Bool) (left right : Row)
+    → pair_entries (if b then (right, left) else (left, right)) ≡ (if b then (entry_of right, entry_of left) else (entry_of left, entry_of right))
 turned_if true left right = refl
 turned_if false left right = refl
 
-pairs_of-entries : (same : Bool) (others : List Row) (left : Row) → map pair_entries (pairs_of same others left) ≡ map (turned same (entry_of left)) (entries_of others)
+pairs_of-entries : (same : Bool) (others : List Row) (left : Row)
+    → map pair_entries (pairs_of same others left) ≡ map (turned same (entry_of left)) (entries_of others)
 pairs_of-entries same [] left = refl
 pairs_of-entries same (x ∷ others) left =
     ap (λ (p : Entry × Entry). p ∷ map pair_entries (pairs_of same others left)) (turned_if (same && nat_lt x.id left.id) left x)
@@ -54,7 +56,8 @@ distinct-entries (row ∷ rows) ids = (
 )
 
 -- the pairs that were passed over are those that a join looks at
-passed-considered_pairs : (admitted : List ℕ → Type 0) (dist : List ℕ → List ℕ → ℕ) (pivots : List (List ℕ)) (same : Bool) (left right : List Row) → (same ≡ true → left ≡ right) → AreRows admitted dist pivots left
+passed-considered_pairs : (admitted : List ℕ → Type 0) (dist : List ℕ → List ℕ → ℕ) (pivots : List (List ℕ)) (same : Bool) (left right : List Row)
+    → (same ≡ true → left ≡ right) → AreRows admitted dist pivots left
     → IsPermutation (considered_pairs same (entries_of left) (entries_of right)) (map pair_entries (passed same left right))
 passed-considered_pairs admitted dist pivots same left right one are =
     subst (IsPermutation (considered_pairs same (entries_of left) (entries_of right))) (sym (passed-entries same left right))
@@ -67,16 +70,21 @@ pair_if P true left right there back = back
 pair_if P false left right there back = there
 
 module _ (admitted : List ℕ → Type 0) (dist : List ℕ → List ℕ → ℕ) (pivots : List (List ℕ)) where
-  with_others : (P : Row × Row → Type 0) → ((a b : Row) → IsRow admitted dist pivots a → IsRow admitted dist pivots b → P (a, b)) → (same : Bool) (row : Row) (others : List Row) → IsRow admitted dist pivots row → All (IsRow admitted dist pivots) others → All P (pairs_of same others row)
+  with_others : (P : Row × Row → Type 0) → ((a b : Row) → IsRow admitted dist pivots a → IsRow admitted dist pivots b → P (a, b))
+      → (same : Bool) (row : Row) (others : List Row) → IsRow admitted dist pivots row → All (IsRow admitted dist pivots) others
+      → All P (pairs_of same others row)
   with_others P holds same row others is are =
       All-map P (ordered_pair same row) others
-      (All-weaker (IsRow admitted dist pivots) (λ (x : Row). P (ordered_pair same row x)) (λ x r. pair_if P (same && nat_lt x.id row.id) row x (holds row x is r) (holds x row r is)) others are)
+      (All-weaker (IsRow admitted dist pivots) (λ (x : Row). P (ordered_pair same row x))
+          (λ x r. pair_if P (same && nat_lt x.id row.id) row x (holds row x is r) (holds x row r is)) others are)
 
-  all_if : (b : Bool) (rows right : List Row) → All (IsRow admitted dist pivots) rows → All (IsRow admitted dist pivots) right → All (IsRow admitted dist pivots) (if b then rows else right)
+  all_if : (b : Bool) (rows right : List Row) → All (IsRow admitted dist pivots) rows → All (IsRow admitted dist pivots) right
+      → All (IsRow admitted dist pivots) (if b then rows else right)
   all_if true rows right a b = a
   all_if false rows right a b = b
 
-  all_passed : (P : Row × Row → Type 0) → ((a b : Row) → IsRow admitted dist pivots a → IsRow admitted dist pivots b → P (a, b)) → (same : Bool) (left right : List Row) → All (IsRow admitted dist pivots) left → All (IsRow admitted dist pivots) right → All P (passed same left right)
+  all_passed : (P : Row × Row → Type 0) → ((a b : Row) → IsRow admitted dist pivots a → IsRow admitted dist pivots b → P (a, b))
+      → (same : Bool) (left right : List Row) → All (IsRow admitted dist pivots) left → All (IsRow admitted dist pivots) right → All P (passed same left right)
   all_passed P holds same [] right first second = All-nil P
   all_passed P holds same (row ∷ rows) right first second =
       let head = All-head (IsRow admitted dist pivots) row rows first in
@@ -99,17 +107,21 @@ module _ (admitted : List ℕ → Type 0) (dist : List ℕ → List ℕ → ℕ)
   }
 
   -- the rows that a row is paired with
-  pub partners-alike : (left right : List Row) (i next : ℕ) (row : Row) (same : Bool) (others : List Row) → AreRows admitted dist pivots left → AreRows admitted dist pivots right → i < length left → row ≡ get_or left i row → others ≡ partners_of same right next
+  pub partners-alike : (left right : List Row) (i next : ℕ) (row : Row) (same : Bool) (others : List Row) → AreRows admitted dist pivots left
+      → AreRows admitted dist pivots right → i < length left → row ≡ get_or left i row → others ≡ partners_of same right next
       → AreAlike admitted (length row.vect) others
   partners-alike left right i next row same others first second below is are =
       let Is : Row → Type 0 = IsRow admitted dist pivots in
       let here : Is row = subst Is (sym is) (All-get_or Is left i row below (each_row admitted dist pivots left first)) in
       let rights = each_row admitted dist pivots right second in
-      subst (AreAlike admitted (length row.vect)) (sym are) (alike row (partners_of same right next) here (all_if same (drop next right) right (All-drop Is next right rights) rights))
+      subst (AreAlike admitted (length row.vect)) (sym are)
+          (alike row (partners_of same right next) here (all_if same (drop next right) right (All-drop Is next right rights) rights))
 
 -- ---- the end of a join
 
-module _ (admitted : List ℕ → Type 0) (dist : List ℕ → List ℕ → ℕ) (pivots : List (List ℕ)) (bounds : BoundsHold admitted dist pivots) (left right : List Row) (first : AreRows admitted dist pivots left) (second : AreRows admitted dist pivots right) (same : Bool) (one : same ≡ true → left ≡ right) (radius : ℕ) where
+module _ (admitted : List ℕ → Type 0) (dist : List ℕ → List ℕ
+    → ℕ) (pivots : List (List ℕ)) (bounds : BoundsHold admitted dist pivots) (left right : List Row) (first : AreRows admitted dist pivots left)
+    (second : AreRows admitted dist pivots right) (same : Bool) (one : same ≡ true → left ≡ right) (radius : ℕ) where
   abbrev verdict : Row × Row → Verdict
   verdict = verdict_of_pair dist radius
 
@@ -135,15 +147,18 @@ module _ (admitted : List ℕ → Type 0) (dist : List ℕ → List ℕ → ℕ)
   all_are = subst (λ (all : List (Row × Row)). ArePairs admitted dist pivots all) whole are_pairs
 
   all_moved : IsPermutation looked_at (map pair_entries (pairs ++ []))
-  all_moved = subst (λ (all : List (Row × Row)). IsPermutation looked_at (map pair_entries all)) whole (passed-considered_pairs admitted dist pivots same left right one first)
+  all_moved = subst (λ (all : List (Row × Row)). IsPermutation looked_at (map pair_entries all)) whole
+      (passed-considered_pairs admitted dist pivots same left right one first)
 
   none_apart : All (λ pair. verdict pair ≡ Apart) []
   none_apart = All-nil (λ pair. verdict pair ≡ Apart)
 
   pub join-answer : (start found : Found (ℕ × ℕ)) → start.kept.items ≡ [] → start.evals ≡ 0 → start.sure ≡ 0 → PassesOver verdict pair_ids pairs start found
-      → (ids : List (ℕ × ℕ)) → ids ≡ sorted_by goes_before found.kept.items → record { pairs = ids; evals = found.evals; sure = found.sure } ≡ join_answer dist pivots looked_at radius
+      → (ids : List (ℕ × ℕ)) → ids ≡ sorted_by goes_before found.kept.items
+          → record { pairs = ids; evals = found.evals; sure = found.sure } ≡ join_answer dist pivots looked_at radius
   join-answer = laws.join-answer admitted dist pivots bounds radius pairs [] looked_at all_are all_moved none_apart
 
-  pub join-log : (count : ℕ) (log : Option (List MeasuredPair)) (count' : ℕ) (log' : Option (List MeasuredPair)) → MeasuresOpen verdict pair_objects pairs count log count' log'
+  pub join-log : (count : ℕ) (log : Option (List MeasuredPair)) (count' : ℕ) (log' : Option (List MeasuredPair))
+      → MeasuresOpen verdict pair_objects pairs count log count' log'
       → LogExtendsInAnyOrder log log' (join_visits dist pivots looked_at radius)
   join-log = laws.join-log admitted dist pivots bounds radius pairs [] looked_at all_are all_moved none_apart

@@ -14,7 +14,8 @@ length-pairs_of same others left = length-map others (ordered_pair same left)
 pub length-pairs_of-front : (same : Bool) (others : List Row) (left : Row) (i : ℕ) → i ≤ length others → length (pairs_of same (take i others) left) ≡ i
 length-pairs_of-front same others left i below = length-pairs_of same (take i others) left ∙ length-take-le i others below
 
-pub pairs_of-more : (same : Bool) (others : List Row) (left : Row) (i : ℕ) (x : Row) → i < length others → x ≡ get_or others i x → pairs_of same (take (i + 1) others) left ≡ pairs_of same (take i others) left ++ ordered_pair same left x ∷ []
+pub pairs_of-more : (same : Bool) (others : List Row) (left : Row) (i : ℕ) (x : Row) → i < length others → x ≡ get_or others i x
+    → pairs_of same (take (i + 1) others) left ≡ pairs_of same (take i others) left ++ ordered_pair same left x ∷ []
 pairs_of-more same others left i x below is =
     ap (λ xs. pairs_of same xs left) (take_more others i x below ∙ ap (λ y. take i others ++ y ∷ []) (sym is))
     ∙ map-append (ordered_pair same left) (take i others) (x ∷ [])
@@ -24,8 +25,10 @@ both_if P true left right there back = back
 both_if P false left right there back = there
 
 -- what holds of the two rows either way
-pub either_way : (P : Row → Row → Type 0) (same : Bool) (left right first second : Row) → ◌≡◌ {A = Row × Row} (first, second) (ordered_pair same left right) → P left right → P right left → P first second
-either_way P same left right first second is there back = subst (λ (p : Row × Row). P p.0 p.1) (sym is) (both_if (λ (p : Row × Row). P p.0 p.1) (same && nat_lt right.id left.id) left right there back)
+pub either_way : (P : Row → Row → Type 0) (same : Bool) (left right first second : Row) → ◌≡◌ {A = Row × Row} (first, second) (ordered_pair same left right)
+    → P left right → P right left → P first second
+either_way P same left right first second is there back =
+    subst (λ (p : Row × Row). P p.0 p.1) (sym is) (both_if (λ (p : Row × Row). P p.0 p.1) (same && nat_lt right.id left.id) left right there back)
 
 -- ---- the pairs of all rows
 
@@ -50,13 +53,16 @@ length-passed same (row ∷ rows) right n few few' =
     let d = length-passed same rows right n (omega (arith, few)) few' in
     let e : (length rows + 1) * n ≡ length rows * n + n = one_more (length rows) n in omega (arith, a, b, c, d, e)
 
-partners_if : (b : Bool) (left right : List Row) (next : ℕ) → (b ≡ true → left ≡ right) → (if b then drop next left else right) ≡ (if b then drop next right else right)
+partners_if : (b : Bool) (left right : List Row) (next : ℕ) → (b ≡ true → left ≡ right)
+    → (if b then drop next left else right) ≡ (if b then drop next right else right)
 partners_if true left right next same = ap (drop next) (same refl)
 partners_if false left right next same = refl
 
 -- one row more was passed over
-pub passed-more : (same : Bool) (left right : List Row) (i : ℕ) (row : Row) (others : List Row) (seen : List (Row × Row)) → (same ≡ true → left ≡ right) → i < length left → row ≡ get_or left i row → others ≡ partners_of same right (i + 1)
-    → seen ++ passed same (drop i left) right ≡ passed same left right → (seen ++ pairs_of same others row) ++ passed same (drop (i + 1) left) right ≡ passed same left right
+pub passed-more : (same : Bool) (left right : List Row) (i : ℕ) (row : Row) (others : List Row) (seen : List (Row × Row)) → (same ≡ true → left ≡ right)
+    → i < length left → row ≡ get_or left i row → others ≡ partners_of same right (i + 1)
+    → seen ++ passed same (drop i left) right ≡ passed same left right
+        → (seen ++ pairs_of same others row) ++ passed same (drop (i + 1) left) right ≡ passed same left right
 passed-more same left right i row others seen one below is are whole =
     let rest : drop i left ≡ row ∷ drop (i + 1) left = drop_more left i row below ∙ ap (λ x. x ∷ drop (i + 1) left) (sym is) in
     let with : (if same then drop (i + 1) left else right) ≡ others = partners_if same left right (i + 1) one ∙ sym are in
@@ -66,7 +72,8 @@ passed-more same left right i row others seen one below is are whole =
     ∙ whole
 
 -- before a row's pairs there is room for them
-pub passed-room : (same : Bool) (left right : List Row) (next : ℕ) (row : Row) (others : List Row) (seen : List (Row × Row)) → (seen ++ pairs_of same others row) ++ passed same (drop next left) right ≡ passed same left right
+pub passed-room : (same : Bool) (left right : List Row) (next : ℕ) (row : Row) (others : List Row) (seen : List (Row × Row))
+    → (seen ++ pairs_of same others row) ++ passed same (drop next left) right ≡ passed same left right
     → length left ≤ 2147483648 → length right ≤ 2147483648 → length seen + length others ≤ 4611686018427387904
 passed-room same left right next row others seen whole few few' =
     let a = ap length whole in
@@ -76,5 +83,7 @@ passed-room same left right next row others seen whole few few' =
     let e = length-passed same left right 2147483648 few few' in omega (arith, a, b, c, d, e, few)
 
 -- at the end all were passed over
-pub passed-all : (same : Bool) (left right : List Row) (i : ℕ) (seen : List (Row × Row)) → length left ≤ i → seen ++ passed same (drop i left) right ≡ passed same left right → seen ≡ passed same left right
-passed-all same left right i seen past whole = sym (append-nil seen) ∙ ap (λ (ps : List (Row × Row)). seen ++ ps) (sym (at_drop_all (λ rows. passed same rows right) left i past)) ∙ whole
+pub passed-all : (same : Bool) (left right : List Row) (i : ℕ) (seen : List (Row × Row)) → length left ≤ i
+    → seen ++ passed same (drop i left) right ≡ passed same left right → seen ≡ passed same left right
+passed-all same left right i seen past whole = sym (append-nil seen)
+    ∙ ap (λ (ps : List (Row × Row)). seen ++ ps) (sym (at_drop_all (λ rows. passed same rows right) left i past)) ∙ whole

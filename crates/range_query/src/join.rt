@@ -37,7 +37,8 @@ pub fn join_rows<R: Ruler>(
     requires right { AreRows (R.admitted (R.kind ruler.old)) (R.dist (R.kind ruler.old)) pivots.now right.now }
     requires same { same ≡ true → left.now ≡ right.now }
     requires room { R.count ruler.old < 2 ^ 63 }
-    ensures answer { IfOk result (λ answer. answer ≡ join_answer (R.dist (R.kind ruler.old)) pivots.now (considered_pairs same (entries_of left.now) (entries_of right.now)) r) }
+    ensures answer { IfOk result (λ answer. answer
+        ≡ join_answer (R.dist (R.kind ruler.old)) pivots.now (considered_pairs same (entries_of left.now) (entries_of right.now)) r) }
     ensures count { IfOk result (λ answer. R.count ruler.new ≡ R.count ruler.old + answer.evals) }
     ensures ruler { RulerContinues R.kind R.count ruler.old ruler.new }
     ensures log { OnOk result (LogExtendsInAnyOrder (R.log ruler.old) (R.log ruler.new)

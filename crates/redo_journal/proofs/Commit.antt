@@ -34,7 +34,8 @@ numbers_back [] rest small = refl
 numbers_back (n ∷ ns) rest small =
     let whole = append_assoc (number_bytes n) (flat_map number_bytes ns) rest in
     ap (λ xs. leading_number xs ∷ numbers_in (length ns) (drop 4 xs)) whole
-    ∙ ap (λ m. m ∷ numbers_in (length ns) (drop 4 (number_bytes n ++ (flat_map number_bytes ns ++ rest)))) (number_back n (flat_map number_bytes ns ++ rest) small.0)
+    ∙ ap (λ m. m ∷ numbers_in (length ns) (drop 4 (number_bytes n ++ (flat_map number_bytes ns ++ rest))))
+        (number_back n (flat_map number_bytes ns ++ rest) small.0)
     ∙ ap (λ xs. n ∷ numbers_in (length ns) xs) (drop_at (number_bytes n) (flat_map number_bytes ns ++ rest) 4 (length-number_bytes n))
     ∙ ap (λ ks. n ∷ ks) (numbers_back ns rest small.1)
 
@@ -60,7 +61,8 @@ header_good total ns some few small homes = record {
 }
 
 -- pages written one after another are read back
-images_back : (image rest : List ℕ) (i : ℕ) (es : List (ℕ × List ℕ)) → ArePages es → drop (512 * i) image ≡ joined_images es ++ rest → entries_from image i (keys_of es) ≡ es
+images_back : (image rest : List ℕ) (i : ℕ) (es : List (ℕ × List ℕ)) → ArePages es → drop (512 * i) image ≡ joined_images es ++ rest
+    → entries_from image i (keys_of es) ≡ es
 images_back image rest i [] whole is = refl
 images_back image rest i (e ∷ es) whole is =
     let here : drop (512 * i) image ≡ e.1 ++ (joined_images es ++ rest) = is ∙ append_assoc e.1 (joined_images es) rest in
@@ -81,7 +83,8 @@ journal_back image rest es few many small whole is =
     )
 
 -- an image whose gate is closed stands for its own pages, and so does each image with the same magic and pages
-pub closed_home : (total : ℕ) (image c marks : List ℕ) (home : ℕ → List ℕ) → RecoversTo total image marks home → has_open_gate image ≡ false → length c ≡ length image → has_open_gate c ≡ false
+pub closed_home : (total : ℕ) (image c marks : List ℕ) (home : ℕ → List ℕ) → RecoversTo total image marks home → has_open_gate image ≡ false
+    → length c ≡ length image → has_open_gate c ≡ false
     → magic c ≡ magic image → ((n : ℕ) → IsHome total n → page c n ≡ page image n) → RecoversTo total c marks home
 closed_home total image c marks home stands closed long closed_too same_magic same = record {
   least = stands.least;
@@ -131,11 +134,13 @@ gate_torn total old c least long torn = record {
 pub written_still : (total : ℕ) (es : List (ℕ × List ℕ)) (old c : List ℕ) → 85 ≤ total → GateAlone total old c → IsWritten total es old → IsWritten total es c
 written_still total es old c least alone written = record {
   header = subst (IsHeader total) (sym (alone.pages_are 4 (omega arith) (omega (arith, least)))) written.header;
-  journal_is = journal_same old c written.header.count.1 (λ k low high. alone.pages_are k (omega (arith, low)) (omega (arith, high, least))) ∙ written.journal_is;
+  journal_is = journal_same old c written.header.count.1 (λ k low high. alone.pages_are k (omega (arith, low)) (omega (arith, high, least)))
+      ∙ written.journal_is;
 }
 
 -- with the gate open, the image stands for the pages with the change
-pub opened_home : (total : ℕ) (es : List (ℕ × List ℕ)) (image c marks : List ℕ) (home : ℕ → List ℕ) → RecoversTo total image marks home → has_open_gate image ≡ false → IsWritten total es image
+pub opened_home : (total : ℕ) (es : List (ℕ × List ℕ)) (image c marks : List ℕ) (home : ℕ → List ℕ) → RecoversTo total image marks home
+    → has_open_gate image ≡ false → IsWritten total es image
     → GateAlone total image c → has_open_gate c ≡ true → RecoversTo total c marks (overlay es home)
 opened_home total es image c marks home stands closed written alone opened =
     let still = written_still total es image c stands.least alone written in record {
@@ -146,16 +151,20 @@ opened_home total es image c marks home stands closed written alone opened =
       pages_are = λ n is.
           redo_opened c n opened
           ∙ ap (λ l. overlay l (page c) n) still.journal_is
-          ∙ ap (page_or (lookup (λ m. m == n) es)) (alone.pages_are n (home_positive total n is) (home_within total n stands.least is) ∙ sym (redo_closed image n closed) ∙ stands.pages_are n is);
+          ∙ ap (page_or (lookup (λ m. m == n) es)) (alone.pages_are n (home_positive total n is) (home_within total n stands.least is)
+              ∙ sym (redo_closed image n closed) ∙ stands.pages_are n is);
     }
 
 -- with the gate closed, for those without
-pub still_home : (total : ℕ) (image c marks : List ℕ) (home : ℕ → List ℕ) → RecoversTo total image marks home → has_open_gate image ≡ false → GateAlone total image c → has_open_gate c ≡ false → RecoversTo total c marks home
+pub still_home : (total : ℕ) (image c marks : List ℕ) (home : ℕ → List ℕ) → RecoversTo total image marks home → has_open_gate image ≡ false
+    → GateAlone total image c → has_open_gate c ≡ false → RecoversTo total c marks home
 still_home total image c marks home stands closed alone closed_too =
-    closed_home total image c marks home stands closed alone.size closed_too alone.magic_is (λ n is. alone.pages_are n (home_positive total n is) (home_within total n stands.least is))
+    closed_home total image c marks home stands closed alone.size closed_too alone.magic_is
+        (λ n is. alone.pages_are n (home_positive total n is) (home_within total n stands.least is))
 
 -- while the gate is written, the image stands for one or the other
-pub gate_opens : (total : ℕ) (es : List (ℕ × List ℕ)) (image c marks : List ℕ) (home : ℕ → List ℕ) → RecoversTo total image marks home → has_open_gate image ≡ false → IsWritten total es image
+pub gate_opens : (total : ℕ) (es : List (ℕ × List ℕ)) (image c marks : List ℕ) (home : ℕ → List ℕ) → RecoversTo total image marks home
+    → has_open_gate image ≡ false → IsWritten total es image
     → IsTornWrite 16 1 image c → RecoversTo total c marks home ⊎ RecoversTo total c marks (overlay es home)
 gate_opens total es image c marks home stands closed written torn =
     let alone = gate_torn total image c stands.least stands.size torn in either (has_open_gate c) refl alone
@@ -165,14 +174,18 @@ gate_opens total es image c marks home stands closed written torn =
     either false closed_too alone = inl (still_home total image c marks home stands closed alone closed_too)
 
 -- the whole body was written
-pub body_laid : (total : ℕ) (es : List (ℕ × List ℕ)) (header image : List ℕ) → 85 ≤ total → total < 4294967296 → length image ≡ 512 * total → 0 < length es → length es ≤ 80
-    → length (keys_of es) ≡ length es → AreHomes total 0 (keys_of es) → ArePages es → header ≡ header_page (keys_of es) → length (header ++ joined_images es) ≡ 512 * (1 + length es)
-    → IsWritten total es (overwritten_at image 2048 (header ++ joined_images es)) × (page (overwritten_at image 2048 (header ++ joined_images es)) 4 ≡ header_page (keys_of es))
+pub body_laid : (total : ℕ) (es : List (ℕ × List ℕ)) (header image : List ℕ) → 85 ≤ total → total < 4294967296 → length image ≡ 512 * total → 0 < length es
+    → length es ≤ 80
+    → length (keys_of es) ≡ length es → AreHomes total 0 (keys_of es) → ArePages es → header ≡ header_page (keys_of es)
+        → length (header ++ joined_images es) ≡ 512 * (1 + length es)
+    → IsWritten total es (overwritten_at image 2048 (header ++ joined_images es))
+        × (page (overwritten_at image 2048 (header ++ joined_images es)) 4 ≡ header_page (keys_of es))
 body_laid total es header image least small size some few many homes whole is long =
     let keys_small = homes_small total 0 (keys_of es) least small homes in
     let rest = drop (2048 + length (header ++ joined_images es)) image in
     let behind : drop (512 * 4) (overwritten_at image 2048 (header ++ joined_images es)) ≡ header_page (keys_of es) ++ (joined_images es ++ rest) =
-    drop_laid image (header ++ joined_images es) 2048 (omega (arith, least, size)) ∙ append_assoc header (joined_images es) rest ∙ ap (λ h. h ++ (joined_images es ++ rest)) is in
+    drop_laid image (header ++ joined_images es) 2048 (omega (arith, least, size)) ∙ append_assoc header (joined_images es) rest
+        ∙ ap (λ h. h ++ (joined_images es ++ rest)) is in
     let back = journal_back (overwritten_at image 2048 (header ++ joined_images es)) rest es few many keys_small whole behind in (
       record {
         header = subst (IsHeader total) (sym back.0) (header_good total (keys_of es) (omega (arith, some, many)) (omega (arith, few, many)) keys_small homes);

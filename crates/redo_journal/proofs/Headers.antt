@@ -15,7 +15,8 @@ pub written : (size n : ℕ) (first numbers : List ℕ) → length first ≡ 4 �
     → put_mid 8 n (first ++ drop 4 (replicate size 0)) numbers ≡ first ++ (replicate 4 0 ++ (numbers ++ replicate (size - 8 - n) 0))
 written size n first numbers four many fits =
     let whole = first ++ drop 4 (replicate size 0) in
-    let long : length whole ≡ size = length-append first (drop 4 (replicate size 0)) ∙ omega (arith, four, fits, length-drop {A = ℕ} 4 (replicate size 0), length-replicate {A = ℕ} size 0) in
+    let long : length whole ≡ size = length-append first (drop 4 (replicate size 0))
+        ∙ omega (arith, four, fits, length-drop {A = ℕ} 4 (replicate size 0), length-replicate {A = ℕ} size 0) in
     let zeros : drop 4 (replicate size 0) ≡ replicate (size - 4) 0 = drop-replicate 4 size 0 in
     let behind : drop 8 whole ≡ replicate (size - 8) 0 =
     sym (drop-drop 4 4 whole) ∙ ap (drop 4) (drop_at first (drop 4 (replicate size 0)) 4 four) ∙ ap (drop 4) zeros ∙ drop-replicate 4 (size - 4) 0
@@ -26,7 +27,8 @@ written size n first numbers four many fits =
     ∙ ap (λ xs. first ++ xs) (take-replicate 4 (size - 4) 0 (omega (arith, fits))) in
     let after : drop (8 + n) whole ≡ replicate (size - 8 - n) 0 = sym (drop-drop n 8 whole) ∙ ap (drop n) behind ∙ drop-replicate n (size - 8) 0 in
     sym (take-append-drop (8 + n) (put_mid 8 n whole numbers))
-    ∙ ap (λ xs. xs ++ drop (8 + n) (put_mid 8 n whole numbers)) (take-put_mid 8 n whole numbers (8 + n) (omega (arith, many)) (omega (arith, long, fits)) ∙ ap (λ xs. xs ++ numbers) front)
+    ∙ ap (λ xs. xs ++ drop (8 + n) (put_mid 8 n whole numbers)) (take-put_mid 8 n whole numbers (8 + n) (omega (arith, many)) (omega (arith, long, fits))
+        ∙ ap (λ xs. xs ++ numbers) front)
     ∙ ap (λ xs. first ++ replicate 4 0 ++ numbers ++ xs) (drop-put_mid 8 n whole numbers (8 + n) (omega arith) (omega (arith, long, fits)) many ∙ after)
     ∙ append_assoc (first ++ replicate 4 0) numbers (replicate (size - 8 - n) 0)
     ∙ append_assoc first (replicate 4 0) (numbers ++ replicate (size - 8 - n) 0)
@@ -74,7 +76,8 @@ last_push last n [] = refl
 last_push last n (m ∷ ns) = last_push m n ns
 
 -- the first number that isn't in its range, after those that are
-pub fails_behind : (total last n : ℕ) (ns rest : List ℕ) → AreHomes total last ns → (IsHome total n → last_of last ns < n → ⊥) → FailsAt total last (ns ++ n ∷ rest) (length ns) n
+pub fails_behind : (total last n : ℕ) (ns rest : List ℕ) → AreHomes total last ns → (IsHome total n → last_of last ns < n → ⊥)
+    → FailsAt total last (ns ++ n ∷ rest) (length ns) n
 fails_behind total last n [] rest homes bad = (refl, bad)
 fails_behind total last n (m ∷ ns) rest homes bad = (homes.0, homes.1, fails_behind total m n ns rest homes.2 bad)
 
@@ -93,12 +96,14 @@ reads_none total count items header none is =
     (sym none) (refl, ap (λ n. numbers_in n (drop 8 header)) all, tt, refl)
 
 -- one number was read, and there are more
-pub reads_on : (count place : ℕ) (items header : List ℕ) → place < count → items ++ numbers_in (count - place) (drop (8 + 4 * place) header) ≡ page_numbers header
+pub reads_on : (count place : ℕ) (items header : List ℕ) → place < count
+    → items ++ numbers_in (count - place) (drop (8 + 4 * place) header) ≡ page_numbers header
     → items ++ leading_number (drop (8 + 4 * place) header) ∷ numbers_in (count - (place + 1)) (drop (8 + 4 * (place + 1)) header) ≡ page_numbers header
 reads_on count place items header more is =
     let next : count - place ≡ suc (count - (place + 1)) = omega (arith, more) in
     let behind : 8 + 4 * place + 4 ≡ 8 + 4 * (place + 1) = omega arith in
-    ap (λ xs. items ++ leading_number (drop (8 + 4 * place) header) ∷ numbers_in (count - (place + 1)) xs) (ap (λ n. drop n header) (sym behind) ∙ sym (drop-drop 4 (8 + 4 * place) header))
+    ap (λ xs. items ++ leading_number (drop (8 + 4 * place) header) ∷ numbers_in (count - (place + 1)) xs) (ap (λ n. drop n header) (sym behind)
+        ∙ sym (drop-drop 4 (8 + 4 * place) header))
     ∙ ap (λ n. items ++ numbers_in n (drop (8 + 4 * place) header)) (sym next)
     ∙ is
 
@@ -106,7 +111,8 @@ reads_on count place items header more is =
 -- header
 abbrev pub HasRead : ℕ → List ℕ → ℕ → List ℕ → ℕ → ℕ → Type 0
 HasRead total header count items last place =
-    (length items ≡ place) × (items ++ numbers_in (count - place) (drop (8 + 4 * place) header) ≡ page_numbers header) × AreHomes total 0 items × (last ≡ last_of 0 items)
+    (length items ≡ place) × (items ++ numbers_in (count - place) (drop (8 + 4 * place) header) ≡ page_numbers header) × AreHomes total 0 items
+        × (last ≡ last_of 0 items)
 
 module _ (total count place last n : ℕ) (items header : List ℕ) (so_far : HasRead total header count items last place)
     (more : place < count) (is : n ≡ leading_number (drop (8 + 4 * place) header)) where

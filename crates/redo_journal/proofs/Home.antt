@@ -34,24 +34,28 @@ pub over_same : (image : List ℕ) (i n : ℕ) (ns : List ℕ) (f g : ℕ → Li
     → overlay (entries_from image i ns) f n ≡ overlay (entries_from image i ns) g n
 over_same image i n [] f g same = same refl
 over_same image i n (m ∷ ns) f g same =
-    over_step (m == n) (page image i) (lookup (λ k. k == n) (entries_from image (suc i) ns)) (is_listed n ns) (f n) (g n) same (over_same image (suc i) n ns f g)
+    over_step (m == n) (page image i) (lookup (λ k. k == n) (entries_from image (suc i) ns)) (is_listed n ns) (f n) (g n) same
+        (over_same image (suc i) n ns f g)
 
 -- images of the same pages
-pub images_same : (old new : List ℕ) (i : ℕ) (ns : List ℕ) → ((k : ℕ) → i ≤ k → k < i + length ns → page new k ≡ page old k) → entries_from new i ns ≡ entries_from old i ns
+pub images_same : (old new : List ℕ) (i : ℕ) (ns : List ℕ) → ((k : ℕ) → i ≤ k → k < i + length ns → page new k ≡ page old k)
+    → entries_from new i ns ≡ entries_from old i ns
 images_same old new i [] same = refl
 images_same old new i (n ∷ ns) same =
     ap (λ p. (n, p) ∷ entries_from new (suc i) ns) (same i (omega arith) (omega arith))
     ∙ ap (λ es. (n, page old i) ∷ es) (images_same old new (suc i) ns (λ k low high. same k (omega (arith, low)) (omega (arith, high))))
 
 -- the journal is the same if its pages are
-pub journal_same : (old new : List ℕ) → image_count (page old 4) ≤ 80 → ((k : ℕ) → 4 ≤ k → k < 85 → page new k ≡ page old k) → journal_entries new ≡ journal_entries old
+pub journal_same : (old new : List ℕ) → image_count (page old 4) ≤ 80 → ((k : ℕ) → 4 ≤ k → k < 85 → page new k ≡ page old k)
+    → journal_entries new ≡ journal_entries old
 unfolding journal_entries
 journal_same old new few same =
     ap (λ h. entries_from new 5 (page_numbers h)) (same 4 (omega arith) (omega arith))
     ∙ images_same old new 5 (page_numbers (page old 4)) (λ k low high. same k (omega (arith, low)) (omega (arith, high, few, length-page_numbers (page old 4))))
 
 -- the same of the journal
-pub over_journal : (image : List ℕ) (n : ℕ) (f g : ℕ → List ℕ) → (is_listed n (page_numbers (page image 4)) ≡ false → f n ≡ g n) → overlay (journal_entries image) f n ≡ overlay (journal_entries image) g n
+pub over_journal : (image : List ℕ) (n : ℕ) (f g : ℕ → List ℕ) → (is_listed n (page_numbers (page image 4)) ≡ false → f n ≡ g n)
+    → overlay (journal_entries image) f n ≡ overlay (journal_entries image) g n
 unfolding journal_entries
 over_journal image n f g same = over_same image 5 n (page_numbers (page image 4)) f g same
 
@@ -77,13 +81,15 @@ survives total image other marks home stands opened differs =
     let header = stands.clean opened in
     let kept : (k : ℕ) → 4 ≤ k → k < 85 → page other k ≡ page image k =
     λ k low high. differs.pages_are k (omega (arith, high, stands.least)) (not_among total 0 k (page_numbers (page image 4)) header.homes (inr (low, high))) in
-    let mark : page other 0 ≡ page image 0 = differs.pages_are 0 (omega (arith, stands.least)) (not_among total 0 0 (page_numbers (page image 4)) header.homes (inl refl)) in
+    let mark : page other 0 ≡ page image 0 =
+        differs.pages_are 0 (omega (arith, stands.least)) (not_among total 0 0 (page_numbers (page image 4)) header.homes (inl refl)) in
     let journal : journal_entries other ≡ journal_entries image = journal_same image other header.count.1 kept in
     let gates : has_open_gate other ≡ has_open_gate image = ap (λ g. g == 1) (gate_same image other mark) in record {
       least = stands.least;
       size = differs.size ∙ stands.size;
       clean = λ _. subst (IsHeader total) (sym (kept 4 (omega arith) (omega arith))) header;
-      marks_are = magic_same image other (omega (arith, stands.size, stands.least)) (omega (arith, differs.size)) (λ k lt. byte_same image other k (omega (arith, lt)) mark) ∙ stands.marks_are;
+      marks_are = magic_same image other (omega (arith, stands.size, stands.least)) (omega (arith, differs.size))
+          (λ k lt. byte_same image other k (omega (arith, lt)) mark) ∙ stands.marks_are;
       pages_are = λ n is.
           redo_opened other n (gates ∙ opened)
           ∙ ap (λ es. overlay es (page other) n) journal

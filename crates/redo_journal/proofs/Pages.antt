@@ -15,7 +15,8 @@ part_same old new from count within longer same =
     let also : length (take count (drop from new)) ≡ count = length-take-le count (drop from new) (omega (arith, within, longer, length-drop from new)) in
     ext_get_or 0 (take count (drop from new)) (take count (drop from old)) (also ∙ sym long) (λ k lt.
     let below : k < count = omega (arith, lt, also) in
-    get_or-take count (drop from new) k 0 below ∙ get_or-drop from new k 0 ∙ same k below ∙ sym (get_or-drop from old k 0) ∙ sym (get_or-take count (drop from old) k 0 below))
+    get_or-take count (drop from new) k 0 below ∙ get_or-drop from new k 0 ∙ same k below ∙ sym (get_or-drop from old k 0)
+        ∙ sym (get_or-take count (drop from old) k 0 below))
 
 module _ (at count : ℕ) (old new : List ℕ) (torn : IsTornWrite at count old new) where
   -- a write within the size keeps it
@@ -25,8 +26,10 @@ module _ (at count : ℕ) (old new : List ℕ) (torn : IsTornWrite at count old 
   -- pages that the write didn't reach
   pub torn_page : (n : ℕ) → 512 * n + 512 ≤ length old → (512 * n + 512 ≤ at) ⊎ (at + count ≤ 512 * n) → page new n ≡ page old n
   unfolding page
-  torn_page n within (inl before) = part_same old new (512 * n) 512 within torn.no_shorter (λ k lt. torn.alike (512 * n + k) (omega (arith, lt, within)) (inl (omega (arith, lt, before))))
-  torn_page n within (inr behind) = part_same old new (512 * n) 512 within torn.no_shorter (λ k lt. torn.alike (512 * n + k) (omega (arith, lt, within)) (inr (omega (arith, behind))))
+  torn_page n within (inl before) = part_same old new (512 * n) 512 within torn.no_shorter
+      (λ k lt. torn.alike (512 * n + k) (omega (arith, lt, within)) (inl (omega (arith, lt, before))))
+  torn_page n within (inr behind) = part_same old new (512 * n) 512 within torn.no_shorter
+      (λ k lt. torn.alike (512 * n + k) (omega (arith, lt, within)) (inr (omega (arith, behind))))
 
   -- the gate and the magic
   pub torn_gate : 17 ≤ length old → 17 ≤ at → gate new ≡ gate old
@@ -88,7 +91,8 @@ unfolding gate
 gate_same old new same = byte_same old new 16 (omega arith) same
 
 -- the magic, byte by byte
-pub magic_same : (old new : List ℕ) → 8 ≤ length old → length old ≤ length new → ((k : ℕ) → k < 8 → slice_index new k ≡ slice_index old k) → magic new ≡ magic old
+pub magic_same : (old new : List ℕ) → 8 ≤ length old → length old ≤ length new → ((k : ℕ) → k < 8 → slice_index new k ≡ slice_index old k)
+    → magic new ≡ magic old
 unfolding magic
 magic_same old new long longer same = part_same old new 0 8 long longer (λ k lt. same (0 + k) (omega (arith, lt)))
 

@@ -44,18 +44,22 @@ front place bytes =
 
 -- the page at a place
 entry_at : (place : ℕ) (ns bytes : List ℕ) → place < length ns
-    → page_entries 512 ns bytes ≡ take place (page_entries 512 ns bytes) ++ (get_or ns place 0, take 512 (drop (512 * place) bytes)) ∷ drop (suc place) (page_entries 512 ns bytes)
+    → page_entries 512 ns bytes ≡ take place (page_entries 512 ns bytes)
+        ++ (get_or ns place 0, take 512 (drop (512 * place) bytes)) ∷ drop (suc place) (page_entries 512 ns bytes)
 entry_at zero (n ∷ ns) bytes lt = refl
 entry_at (suc place) (n ∷ ns) bytes lt =
     ap (λ es. (n, take 512 bytes) ∷ es) (entry_at place ns (drop 512 bytes) (omega (arith, lt))
-    ∙ ap (λ xs. take place (page_entries 512 ns (drop 512 bytes)) ++ (get_or ns place 0, take 512 xs) ∷ drop (suc place) (page_entries 512 ns (drop 512 bytes))) (further place bytes))
+    ∙ ap (λ xs. take place (page_entries 512 ns (drop 512 bytes))
+        ++ (get_or ns place 0, take 512 xs) ∷ drop (suc place) (page_entries 512 ns (drop 512 bytes))) (further place bytes))
 entry_at place [] bytes lt = absurd (omega (arith, lt))
 
 pub entry-page_entries : (place : ℕ) (ns bytes : List ℕ) → place < length ns
-    → page_entries 512 ns bytes ≡ take place (page_entries 512 ns bytes) ++ (get_or ns place 0, take 512 (drop (512 * place) bytes)) ∷ drop (place + 1) (page_entries 512 ns bytes)
+    → page_entries 512 ns bytes ≡ take place (page_entries 512 ns bytes)
+        ++ (get_or ns place 0, take 512 (drop (512 * place) bytes)) ∷ drop (place + 1) (page_entries 512 ns bytes)
 entry-page_entries place ns bytes lt =
     let on : suc place ≡ place + 1 = omega arith in
-    entry_at place ns bytes lt ∙ ap (λ k. take place (page_entries 512 ns bytes) ++ (get_or ns place 0, take 512 (drop (512 * place) bytes)) ∷ drop k (page_entries 512 ns bytes)) on
+    entry_at place ns bytes lt ∙ ap (λ k. take place (page_entries 512 ns bytes)
+        ++ (get_or ns place 0, take 512 (drop (512 * place) bytes)) ∷ drop k (page_entries 512 ns bytes)) on
 
 not_equal : (m n : ℕ) → (m ≡ n → ⊥) → (m == n) ≡ false
 not_equal m n apart = grind (arith, nat_tests)
@@ -95,7 +99,8 @@ some_of Greater a b c x y z = z
 
 pub with_page-some : (es : List (ℕ × List ℕ)) (n : ℕ) (page : List ℕ) → 0 < length (with_page es n page)
 with_page-some [] n page = omega arith
-with_page-some (e ∷ es) n page = some_of (nat_cmp n e.0) ((n, page) ∷ e ∷ es) ((e.0, page) ∷ es) (e ∷ with_page es n page) (omega arith) (omega arith) (omega arith)
+with_page-some (e ∷ es) n page = some_of (nat_cmp n e.0) ((n, page) ∷ e ∷ es) ((e.0, page) ∷ es) (e ∷ with_page es n page) (omega arith) (omega arith)
+    (omega arith)
 
 -- a first page, and then those after it
 paired_on : (m : ℕ) (ns first rest : List ℕ) → length first ≡ 512 → page_entries 512 (m ∷ ns) (first ++ rest) ≡ (m, first) ∷ page_entries 512 ns rest
@@ -113,29 +118,36 @@ later (suc place) (m ∷ ns) last total n homes lt is = omega (arith, homes.1, l
 later place [] last total n homes lt is = absurd (omega (arith, lt))
 
 -- a page takes the place of the one with its number
-pub replaced : (place total last n : ℕ) (ns bytes page : List ℕ) → AreHomes total last ns → place < length ns → get_or ns place 0 ≡ n → length page ≡ 512 → 512 * length ns ≤ length bytes
+pub replaced : (place total last n : ℕ) (ns bytes page : List ℕ) → AreHomes total last ns → place < length ns → get_or ns place 0 ≡ n → length page ≡ 512
+    → 512 * length ns ≤ length bytes
     → page_entries 512 ns (take (512 * place) bytes ++ (page ++ drop (512 * place + 512) bytes)) ≡ with_page (page_entries 512 ns bytes) n page
 replaced zero total last n (m ∷ ns) bytes page homes lt is whole fits =
     paired_on m ns page (drop 512 bytes) whole ∙ sym (goes_here n m page (take 512 bytes) (page_entries 512 ns (drop 512 bytes)) (sym is))
 replaced (suc place) total last n (m ∷ ns) bytes page homes lt is whole fits =
     let on : 512 * suc place + 512 ≡ 512 + (512 * place + 512) = omega arith in
     ap (page_entries 512 (m ∷ ns)) (split_on place bytes (page ++ drop (512 * suc place + 512) bytes))
-    ∙ paired_on m ns (take 512 bytes) (take (512 * place) (drop 512 bytes) ++ (page ++ drop (512 * suc place + 512) bytes)) (length-take-le 512 bytes (omega (arith, fits)))
-    ∙ ap (λ xs. (m, take 512 bytes) ∷ page_entries 512 ns (take (512 * place) (drop 512 bytes) ++ (page ++ xs))) (ap (λ k. drop k bytes) on ∙ sym (drop-drop (512 * place + 512) 512 bytes))
-    ∙ ap (λ es. (m, take 512 bytes) ∷ es) (replaced place total m n ns (drop 512 bytes) page homes.2 (omega (arith, lt)) is whole (omega (arith, fits, length-drop 512 bytes)))
+    ∙ paired_on m ns (take 512 bytes) (take (512 * place) (drop 512 bytes) ++ (page ++ drop (512 * suc place + 512) bytes))
+        (length-take-le 512 bytes (omega (arith, fits)))
+    ∙ ap (λ xs. (m, take 512 bytes) ∷ page_entries 512 ns (take (512 * place) (drop 512 bytes) ++ (page ++ xs))) (ap (λ k. drop k bytes) on
+        ∙ sym (drop-drop (512 * place + 512) 512 bytes))
+    ∙ ap (λ es. (m, take 512 bytes) ∷ es)
+        (replaced place total m n ns (drop 512 bytes) page homes.2 (omega (arith, lt)) is whole (omega (arith, fits, length-drop 512 bytes)))
     ∙ sym (goes_behind n m page (take 512 bytes) (page_entries 512 ns (drop 512 bytes)) (later place ns m total n homes.2 (omega (arith, lt)) is))
 replaced place total last n [] bytes page homes lt is whole fits = absurd (omega (arith, lt))
 
 -- a page is added to the others
-pub joins : (place n : ℕ) (ns bytes page : List ℕ) → place ≤ length ns → ((k : ℕ) → k < place → get_or ns k 0 < n) → ((k : ℕ) → place ≤ k → k < length ns → n < get_or ns k 0)
+pub joins : (place n : ℕ) (ns bytes page : List ℕ) → place ≤ length ns → ((k : ℕ) → k < place → get_or ns k 0 < n)
+    → ((k : ℕ) → place ≤ k → k < length ns → n < get_or ns k 0)
     → length page ≡ 512 → 512 * length ns ≤ length bytes
     → page_entries 512 (insert ns place n) (take (512 * place) bytes ++ (page ++ drop (512 * place) bytes)) ≡ with_page (page_entries 512 ns bytes) n page
 joins zero n [] bytes page le below above whole fits = paired_on n [] page bytes whole
 joins zero n (m ∷ ns) bytes page le below above whole fits =
-    paired_on n (m ∷ ns) page bytes whole ∙ sym (goes_first n m page (take 512 bytes) (page_entries 512 ns (drop 512 bytes)) (above 0 (omega arith) (omega arith)))
+    paired_on n (m ∷ ns) page bytes whole
+        ∙ sym (goes_first n m page (take 512 bytes) (page_entries 512 ns (drop 512 bytes)) (above 0 (omega arith) (omega arith)))
 joins (suc place) n (m ∷ ns) bytes page le below above whole fits =
     ap (page_entries 512 (m ∷ insert ns place n)) (split_on place bytes (page ++ drop (512 * suc place) bytes))
-    ∙ paired_on m (insert ns place n) (take 512 bytes) (take (512 * place) (drop 512 bytes) ++ (page ++ drop (512 * suc place) bytes)) (length-take-le 512 bytes (omega (arith, fits)))
+    ∙ paired_on m (insert ns place n) (take 512 bytes) (take (512 * place) (drop 512 bytes) ++ (page ++ drop (512 * suc place) bytes))
+        (length-take-le 512 bytes (omega (arith, fits)))
     ∙ ap (λ xs. (m, take 512 bytes) ∷ page_entries 512 (insert ns place n) (take (512 * place) (drop 512 bytes) ++ (page ++ xs))) (sym (further place bytes))
     ∙ ap (λ es. (m, take 512 bytes) ∷ es) (joins place n ns (drop 512 bytes) page (omega (arith, le)) (λ k lt. below (suc k) (omega (arith, lt)))
     (λ k ge lt. above (suc k) (omega (arith, ge)) (omega (arith, lt))) whole (omega (arith, fits, length-drop 512 bytes)))
@@ -162,8 +174,10 @@ absent_between n place ns bytes between =
 
 -- one that is
 pub present : (n place : ℕ) (ns bytes : List ℕ) → place < length ns → get_or ns place 0 ≡ n → IsSome (lookup (λ m. m == n) (page_entries 512 ns bytes))
-present n zero (m ∷ ns) bytes lt is = subst (λ (b : Bool). IsSome (cond b (Some (take 512 bytes)) (lookup (λ k. k == n) (page_entries 512 ns (drop 512 bytes))))) (sym (same_number m n is)) refl
-present n (suc place) (m ∷ ns) bytes lt is = some_or (m == n) (take 512 bytes) (lookup (λ k. k == n) (page_entries 512 ns (drop 512 bytes))) (present n place ns (drop 512 bytes) (omega (arith, lt)) is)
+present n zero (m ∷ ns) bytes lt is = subst
+    (λ (b : Bool). IsSome (cond b (Some (take 512 bytes)) (lookup (λ k. k == n) (page_entries 512 ns (drop 512 bytes))))) (sym (same_number m n is)) refl
+present n (suc place) (m ∷ ns) bytes lt is =
+    some_or (m == n) (take 512 bytes) (lookup (λ k. k == n) (page_entries 512 ns (drop 512 bytes))) (present n place ns (drop 512 bytes) (omega (arith, lt)) is)
 present n place [] bytes lt is = absurd (omega (arith, lt))
 
 -- the numbers don't fall
@@ -179,12 +193,14 @@ positive total n (inl low) = low.0
 positive total n (inr high) = omega (arith, high)
 
 -- a number is added to the others
-pub homes_insert : (total last place n : ℕ) (ns : List ℕ) → AreHomes total last ns → IsHome total n → last < n → place ≤ length ns → ((k : ℕ) → k < place → get_or ns k 0 < n)
+pub homes_insert : (total last place n : ℕ) (ns : List ℕ) → AreHomes total last ns → IsHome total n → last < n → place ≤ length ns
+    → ((k : ℕ) → k < place → get_or ns k 0 < n)
     → ((k : ℕ) → place ≤ k → k < length ns → n < get_or ns k 0) → AreHomes total last (insert ns place n)
 homes_insert total last zero n [] homes home rise le below above = (home, rise, tt)
 homes_insert total last zero n (m ∷ ns) homes home rise le below above = (home, rise, (homes.0, above 0 (omega arith) (omega arith), homes.2))
 homes_insert total last (suc place) n (m ∷ ns) homes home rise le below above =
-    (homes.0, homes.1, homes_insert total m place n ns homes.2 home (below 0 (omega arith)) (omega (arith, le)) (λ k lt. below (suc k) (omega (arith, lt))) (λ k ge lt. above (suc k) (omega (arith, ge)) (omega (arith, lt))))
+    (homes.0, homes.1, homes_insert total m place n ns homes.2 home (below 0 (omega arith)) (omega (arith, le)) (λ k lt. below (suc k) (omega (arith, lt)))
+        (λ k ge lt. above (suc k) (omega (arith, ge)) (omega (arith, lt))))
 homes_insert total last (suc place) n [] homes home rise le below above = absurd (omega (arith, le))
 
 -- after the header: the bytes once a page is replaced at a place, or put there
@@ -203,7 +219,8 @@ module _ (total capacity n place : ℕ) (numbers body page : List ℕ) (staged :
   long = length-drop 512 body ∙ omega (arith, staged.long)
 
   pub stage_replaces : IsPlaceOf numbers n place
-      → Stages (Ok tt) (page_entries 512 numbers (drop 512 body)) n page (page_entries 512 numbers (drop 512 (take (512 * (place + 1)) body ++ (page ++ drop (512 * (place + 1) + 512) body))))
+      → Stages (Ok tt) (page_entries 512 numbers (drop 512 body)) n page
+          (page_entries 512 numbers (drop 512 (take (512 * (place + 1)) body ++ (page ++ drop (512 * (place + 1) + 512) body))))
   stage_replaces at =
       let on : 512 * (place + 1) + 512 ≡ 512 + (512 * place + 512) = omega arith in (
         ap (page_entries 512 numbers) (split_behind place (512 * (place + 1) + 512) body page (omega (arith, at.0, staged.long))
@@ -213,7 +230,8 @@ module _ (total capacity n place : ℕ) (numbers body page : List ℕ) (staged :
       )
 
   pub stage_joins : IsBetween numbers n place → length numbers < 80
-      → Stages (Ok tt) (page_entries 512 numbers (drop 512 body)) n page (page_entries 512 (insert numbers place n) (drop 512 (take (512 * (place + 1)) body ++ (page ++ drop (512 * (place + 1)) body))))
+      → Stages (Ok tt) (page_entries 512 numbers (drop 512 body)) n page
+          (page_entries 512 (insert numbers place n) (drop 512 (take (512 * (place + 1)) body ++ (page ++ drop (512 * (place + 1)) body))))
   stage_joins between room =
       let on : 512 * (place + 1) ≡ 512 + 512 * place = omega arith in (
         ap (page_entries 512 (insert numbers place n)) (split_behind place (512 * (place + 1)) body page (omega (arith, between.0, staged.long))
@@ -222,7 +240,8 @@ module _ (total capacity n place : ℕ) (numbers body page : List ℕ) (staged :
         inl (omega (arith, room, length-page_entries 512 numbers (drop 512 body))),
       )
 
-  pub stage_refuses : IsBetween numbers n place → length numbers ≡ 80 → (length (page_entries 512 numbers (drop 512 body)) ≡ 80) × (lookup (λ m. m == n) (page_entries 512 numbers (drop 512 body)) ≡ None)
+  pub stage_refuses : IsBetween numbers n place → length numbers ≡ 80 → (length (page_entries 512 numbers (drop 512 body)) ≡ 80)
+      × (lookup (λ m. m == n) (page_entries 512 numbers (drop 512 body)) ≡ None)
   stage_refuses between full = (
     length-page_entries 512 numbers (drop 512 body) ∙ full,
     absent_between n place numbers (drop 512 body) between,
@@ -231,14 +250,17 @@ module _ (total capacity n place : ℕ) (numbers body page : List ℕ) (staged :
   pub joins_staged : (later : ℕ) → IsHome total n → IsBetween numbers n place → length numbers < 80 → capacity ≤ later
       → IsStaged total (insert numbers place n) (take (512 * (place + 1)) body ++ (page ++ drop (512 * (place + 1)) body)) later
   joins_staged later home between room kept =
-      let front : length (take (512 * (place + 1)) body) ≡ 512 * (place + 1) = length-take-le (512 * (place + 1)) body (omega (arith, between.0, staged.long)) in
+      let front : length (take (512 * (place + 1)) body) ≡ 512 * (place + 1) =
+          length-take-le (512 * (place + 1)) body (omega (arith, between.0, staged.long)) in
       let more : length (insert numbers place n) ≡ length numbers + 1 =
-      length-append (take place numbers) (n ∷ drop place numbers) ∙ omega (arith, length-take-le place numbers between.0, length-drop place numbers, between.0) in record {
+      length-append (take place numbers) (n ∷ drop place numbers)
+          ∙ omega (arith, length-take-le place numbers between.0, length-drop place numbers, between.0) in record {
         small = staged.small;
         homes = homes_insert total 0 place n numbers staged.homes home (positive total n home) between.0 between.1 between.2;
         few = omega (arith, more, room);
         long = length-append (take (512 * (place + 1)) body) (page ++ drop (512 * (place + 1)) body)
-            ∙ omega (arith, front, whole, more, between.0, staged.long, length-append page (drop (512 * (place + 1)) body), length-drop (512 * (place + 1)) body);
+            ∙ omega (arith, front, whole, more, between.0, staged.long, length-append page (drop (512 * (place + 1)) body),
+                length-drop (512 * (place + 1)) body);
         room = omega (arith, kept, staged.room);
       }
 
@@ -250,7 +272,8 @@ home_at total last place [] homes lt = absurd (omega (arith, lt))
 
 pages-page_entries : (ns bytes : List ℕ) → 512 * length ns ≤ length bytes → ArePages (page_entries 512 ns bytes)
 pages-page_entries [] bytes long = tt
-pages-page_entries (n ∷ ns) bytes long = (length-take-le 512 bytes (omega (arith, long)), pages-page_entries ns (drop 512 bytes) (omega (arith, long, length-drop 512 bytes)))
+pages-page_entries (n ∷ ns) bytes long =
+    (length-take-le 512 bytes (omega (arith, long)), pages-page_entries ns (drop 512 bytes) (omega (arith, long, length-drop 512 bytes)))
 
 -- what is kept in memory is sound
 pub is_sound : (total capacity : ℕ) (ns body : List ℕ) (now : StagedPages) → IsStaged total ns body capacity
@@ -262,6 +285,7 @@ is_sound total capacity ns body now staged is = subst IsChange is (record {
   small = staged.small;
 })
 
-pub stages_some : (result : Result Unit StageError) (old new : List (ℕ × List ℕ)) (n : ℕ) (page : List ℕ) → Stages result old n page new → OnOk result (0 < length new)
+pub stages_some : (result : Result Unit StageError) (old new : List (ℕ × List ℕ)) (n : ℕ) (page : List ℕ) → Stages result old n page new
+    → OnOk result (0 < length new)
 stages_some (Ok u) old new n page stages = subst (λ l. 0 < length l) (sym stages.0) (with_page-some old n page)
 stages_some (Err e) old new n page stages = tt

@@ -20,7 +20,8 @@ module _ {D : Type 0} (moment : D → ℕ) (crash_states_since : D → ℕ → L
   pub settled_so_far : (start written synced : D) → AreHomes total 0 (keys_of es) → HoldsChange es (image start) → RecoversTo total (image start) marks home
       → CrashesLeaveOnly moment crash_states_since start written (DiffersWithin total (keys_of es) (image start))
       → ((c : List ℕ) → crash_states written c → DiffersWithin total (keys_of es) (image start) c)
-      → Elapses (moment written) (moment synced) (crash_states_since written) (crash_states_since synced) (crash_states synced) → Includes (crash_states written) (crash_states synced)
+      → Elapses (moment written) (moment synced) (crash_states_since written) (crash_states_since synced) (crash_states synced)
+          → Includes (crash_states written) (crash_states synced)
       → CrashesLeaveOnly moment crash_states_since start synced (λ c. RecoversTo total c marks home)
   settled_so_far start written synced homes holds stands run crash time within =
       let as_home : (c : List ℕ) → DiffersWithin total (keys_of es) (image start) c → RecoversTo total c marks home =
@@ -30,27 +31,34 @@ module _ {D : Type 0} (moment : D → ℕ) (crash_states_since : D → ℕ → L
       (λ c now. as_home c (crash c (within c now)))
 
   -- and then the gate was written
-  pub settled : (start synced now : D) → AreHomes total 0 (keys_of es) → HoldsChange es (image start) → RecoversTo total (image start) marks home → CrashesLeaveOnly moment crash_states_since start synced (λ c. RecoversTo total c marks home)
+  pub settled : (start synced now : D) → AreHomes total 0 (keys_of es) → HoldsChange es (image start) → RecoversTo total (image start) marks home
+      → CrashesLeaveOnly moment crash_states_since start synced (λ c. RecoversTo total c marks home)
       → AreInPlace es (image synced) → DiffersWithin total (keys_of es) (image start) (image synced)
-      → CrashesLeaveOnly moment crash_states_since synced now (IsTornWrite 16 1 (image synced)) → CrashesLeaveOnly moment crash_states_since start now (λ c. RecoversTo total c marks home)
+      → CrashesLeaveOnly moment crash_states_since synced now (IsTornWrite 16 1 (image synced))
+          → CrashesLeaveOnly moment crash_states_since start now (λ c. RecoversTo total c marks home)
   settled start synced now homes holds stands so_far placed differs run =
       joined moment crash_states_since start synced now (λ c. RecoversTo total c marks home) so_far
       (weaker moment crash_states_since synced now (IsTornWrite 16 1 (image synced)) (λ c. RecoversTo total c marks home)
-      (λ c torn. gate_closes total es (image start) (image synced) c marks home homes holds differs placed (gate_torn total (image synced) c stands.least (differs.size ∙ stands.size) torn) stands) run)
+      (λ c torn. gate_closes total es (image start) (image synced) c marks home homes holds differs placed
+          (gate_torn total (image synced) c stands.least (differs.size ∙ stands.size) torn) stands) run)
 
   -- the body went into the journal
   pub committed_so_far : (start written : D) → RecoversTo total (image start) marks home → has_open_gate (image start) ≡ false → length es ≤ 80
-      → CrashesLeaveOnly moment crash_states_since start written (IsTornWrite 2048 (512 * (1 + length es)) (image start)) → CrashesLeaveOnly moment crash_states_since start written (IsBeforeOrAfter total es marks home)
+      → CrashesLeaveOnly moment crash_states_since start written (IsTornWrite 2048 (512 * (1 + length es)) (image start))
+          → CrashesLeaveOnly moment crash_states_since start written (IsBeforeOrAfter total es marks home)
   committed_so_far start written stands closed few run =
       weaker moment crash_states_since start written (IsTornWrite 2048 (512 * (1 + length es)) (image start)) (IsBeforeOrAfter total es marks home)
       (λ c torn. inl (body_torn total (length es) (image start) c marks home stands closed few torn).0) run
 
   -- and then the gate was written
-  pub committed : (start written now : D) → CrashesLeaveOnly moment crash_states_since start written (IsBeforeOrAfter total es marks home) → RecoversTo total (image written) marks home → has_open_gate (image written) ≡ false
-      → IsWritten total es (image written) → CrashesLeaveOnly moment crash_states_since written now (IsTornWrite 16 1 (image written)) → CrashesLeaveOnly moment crash_states_since start now (IsBeforeOrAfter total es marks home)
+  pub committed : (start written now : D) → CrashesLeaveOnly moment crash_states_since start written (IsBeforeOrAfter total es marks home)
+      → RecoversTo total (image written) marks home → has_open_gate (image written) ≡ false
+      → IsWritten total es (image written) → CrashesLeaveOnly moment crash_states_since written now (IsTornWrite 16 1 (image written))
+          → CrashesLeaveOnly moment crash_states_since start now (IsBeforeOrAfter total es marks home)
   committed start written now so_far stands closed is_written run =
       joined moment crash_states_since start written now (IsBeforeOrAfter total es marks home) so_far
-      (weaker moment crash_states_since written now (IsTornWrite 16 1 (image written)) (IsBeforeOrAfter total es marks home) (λ c torn. gate_opens total es (image written) c marks home stands closed is_written torn) run)
+      (weaker moment crash_states_since written now (IsTornWrite 16 1 (image written)) (IsBeforeOrAfter total es marks home)
+          (λ c torn. gate_opens total es (image written) c marks home stands closed is_written torn) run)
 
 length-keys : (es : List (ℕ × List ℕ)) → length (keys_of es) ≡ length es
 length-keys [] = refl
@@ -61,16 +69,22 @@ pub record HasBody (total : ℕ) (es : List (ℕ × List ℕ)) (old new : List �
   pub is_written : IsWritten total es new
   pub header_is : page new 4 ≡ header_page (keys_of es)
   pub size : length new ≡ length old
-  pub stands : (marks : List ℕ) (home : ℕ → List ℕ) → RecoversTo total old marks home → has_open_gate old ≡ false → RecoversTo total new marks home × (has_open_gate new ≡ false)
+  pub stands : (marks : List ℕ) (home : ℕ → List ℕ) → RecoversTo total old marks home → has_open_gate old ≡ false → RecoversTo total new marks home
+      × (has_open_gate new ≡ false)
 
-pub has_body : (staged : StagedPages) (header body old new : List ℕ) → IsChange staged → 0 < length staged.pages → 85 ≤ staged.total → length old ≡ 512 * staged.total
-    → header ≡ header_page (keys_of staged.pages) → body ≡ header ++ joined_images staged.pages → length body ≡ 512 * (1 + length staged.pages) → new ≡ overwritten_at old 2048 body
+pub has_body : (staged : StagedPages) (header body old new : List ℕ) → IsChange staged → 0 < length staged.pages → 85 ≤ staged.total
+    → length old ≡ 512 * staged.total
+    → header ≡ header_page (keys_of staged.pages) → body ≡ header ++ joined_images staged.pages → length body ≡ 512 * (1 + length staged.pages)
+        → new ≡ overwritten_at old 2048 body
     → HasBody staged.total staged.pages old new
 has_body staged header body old new sound some least size header_is body_is long is =
-    let laid_all = body_laid staged.total staged.pages header old least sound.small size some sound.few (length-keys staged.pages) sound.homes sound.whole header_is (sym (ap length body_is) ∙ long) in
+    let laid_all = body_laid staged.total staged.pages header old least sound.small size some sound.few (length-keys staged.pages)
+        sound.homes sound.whole header_is (sym (ap length body_is) ∙ long) in
     let same : overwritten_at old 2048 (header ++ joined_images staged.pages) ≡ new = ap (overwritten_at old 2048) (sym body_is) ∙ sym is in
     let torn : IsTornWrite 2048 (512 * (1 + length staged.pages)) old new =
-    subst (IsTornWrite 2048 (512 * (1 + length staged.pages)) old) (sym is) (subst (λ (m : ℕ). IsTornWrite 2048 m old (overwritten_at old 2048 body)) long (torn-overwritten_at old 2048 body (omega (arith, least, size)))) in record {
+    subst (IsTornWrite 2048 (512 * (1 + length staged.pages)) old) (sym is)
+        (subst (λ (m : ℕ). IsTornWrite 2048 m old (overwritten_at old 2048 body)) long (torn-overwritten_at old 2048 body (omega (arith, least, size)))) in
+        record {
       is_written = subst (IsWritten staged.total staged.pages) same laid_all.0;
       header_is = subst (λ (i : List ℕ). page i 4 ≡ header_page (keys_of staged.pages)) same laid_all.1;
       size = torn_size 2048 (512 * (1 + length staged.pages)) old new torn (omega (arith, least, size, sound.few));
@@ -93,15 +107,18 @@ commits total es old written new least size body is =
 
 -- a run, and then another
 pub recovered : {D : Type 0} (moment : D → ℕ) (crash_states_since : D → ℕ → List ℕ → Type 0) (start found now : D) (P Q : List ℕ → Type 0)
-    → CrashesLeaveOnly moment crash_states_since start found P → CrashesLeaveOnly moment crash_states_since found now Q → CrashesLeaveOnly moment crash_states_since start now (λ c. P c ⊎ Q c)
+    → CrashesLeaveOnly moment crash_states_since start found P → CrashesLeaveOnly moment crash_states_since found now Q
+        → CrashesLeaveOnly moment crash_states_since start now (λ c. P c ⊎ Q c)
 recovered moment crash_states_since start found now P Q before after =
     joined moment crash_states_since start found now (λ c. P c ⊎ Q c)
     (weaker moment crash_states_since start found P (λ c. P c ⊎ Q c) (λ c has. inl has) before)
     (weaker moment crash_states_since found now Q (λ c. P c ⊎ Q c) (λ c has. inr has) after)
 
 -- if nothing was pending, what might have been left has the home too
-pub stood : {D : Type 0} (moment : D → ℕ) (crash_states_since : D → ℕ → List ℕ → Type 0) (start now : D) (total : ℕ) (image : List ℕ) (crash_states : List ℕ → Type 0) (marks : List ℕ) (home : ℕ → List ℕ)
-    → IsDurable image crash_states → RecoversTo total image marks home → CrashesLeaveOnly moment crash_states_since start now (λ c. crash_states c ⊎ RecoversTo total c marks home)
+pub stood : {D : Type 0} (moment : D → ℕ) (crash_states_since : D → ℕ → List ℕ → Type 0) (start now : D) (total : ℕ) (image : List ℕ) (crash_states : List ℕ
+    → Type 0) (marks : List ℕ) (home : ℕ → List ℕ)
+    → IsDurable image crash_states → RecoversTo total image marks home
+        → CrashesLeaveOnly moment crash_states_since start now (λ c. crash_states c ⊎ RecoversTo total c marks home)
     → CrashesLeaveOnly moment crash_states_since start now (λ c. RecoversTo total c marks home)
 stood moment crash_states_since start now total image crash_states marks home only stands run =
     weaker moment crash_states_since start now (λ c. crash_states c ⊎ RecoversTo total c marks home) (λ c. RecoversTo total c marks home)

@@ -26,11 +26,13 @@ pub page_goes_home : (total n : ℕ) (numbers start old c : List ℕ) → n < to
 page_goes_home total n numbers start old c within long among so_far torn =
     let size : length old ≡ 512 * total = so_far.size ∙ long in record {
       size = torn_size (512 * n) 512 old c torn (omega (arith, size, within)) ∙ so_far.size;
-      pages_are = λ m lt free. torn_page (512 * n) 512 old c torn m (omega (arith, lt, size)) (beside m (apart m n numbers free among)) ∙ so_far.pages_are m lt free;
+      pages_are = λ m lt free. torn_page (512 * n) 512 old c torn m (omega (arith, lt, size)) (beside m (apart m n numbers free among))
+          ∙ so_far.pages_are m lt free;
     }
   where
     beside : (m : ℕ) → (m ≡ n → ⊥) → (512 * m + 512 ≤ 512 * n) ⊎ (512 * n + 512 ≤ 512 * m)
-    beside m other = ⊎_elim (λ lt. inl (omega (arith, lt))) (λ ge. ⊎_elim (λ lt. inr (omega (arith, lt))) (λ le. absurd (other (omega (arith, ge, le)))) (cases_lt n m)) (cases_lt m n)
+    beside m other = ⊎_elim (λ lt. inl (omega (arith, lt)))
+        (λ ge. ⊎_elim (λ lt. inr (omega (arith, lt))) (λ le. absurd (other (omega (arith, ge, le)))) (cases_lt n m)) (cases_lt m n)
 
 pub differs_none : (total : ℕ) (numbers image : List ℕ) → DiffersWithin total numbers image image
 differs_none total numbers image = record { size = refl; pages_are = λ n lt free. refl }
@@ -64,19 +66,23 @@ before_below total last n p [] after homes = tt
 before_below total last n p (e ∷ before) after homes = (first_below total e.0 n p before after homes.2, before_below total e.0 n p before after homes.2)
 
 -- the pages that are home stay there when the next one goes home
-placed_kept : (n : ℕ) (es : List (ℕ × List ℕ)) (old new : List ℕ) → AreBelow n es → 512 * n + 512 ≤ length old → IsTornWrite (512 * n) 512 old new → AreInPlace es old → AreInPlace es new
+placed_kept : (n : ℕ) (es : List (ℕ × List ℕ)) (old new : List ℕ) → AreBelow n es → 512 * n + 512 ≤ length old → IsTornWrite (512 * n) 512 old new
+    → AreInPlace es old → AreInPlace es new
 placed_kept n [] old new below within torn placed = tt
 placed_kept n (e ∷ es) old new below within torn placed =
-    (torn_page (512 * n) 512 old new torn e.0 (omega (arith, below.0, within)) (inl (omega (arith, below.0))) ∙ placed.0, placed_kept n es old new below.1 within torn placed.1)
+    (torn_page (512 * n) 512 old new torn e.0 (omega (arith, below.0, within)) (inl (omega (arith, below.0)))
+        ∙ placed.0, placed_kept n es old new below.1 within torn placed.1)
 
 placed_push : (es : List (ℕ × List ℕ)) (n : ℕ) (p image : List ℕ) → AreInPlace es image → page image n ≡ p → AreInPlace (es ++ (n, p) ∷ []) image
 placed_push [] n p image placed is = (is, tt)
 placed_push (e ∷ es) n p image placed is = (placed.0, placed_push es n p image placed.1 is)
 
-pub placed_on : (total n : ℕ) (p : List ℕ) (es before after : List (ℕ × List ℕ)) (old new : List ℕ) → es ≡ before ++ (n, p) ∷ after → AreHomes total 0 (keys_of es)
+pub placed_on : (total n : ℕ) (p : List ℕ) (es before after : List (ℕ × List ℕ)) (old new : List ℕ) → es ≡ before ++ (n, p) ∷ after
+    → AreHomes total 0 (keys_of es)
     → 512 * n + 512 ≤ length old → IsTornWrite (512 * n) 512 old new → page new n ≡ p → AreInPlace before old → AreInPlace (before ++ (n, p) ∷ []) new
 placed_on total n p es before after old new is homes within torn there placed =
-    placed_push before n p new (placed_kept n before old new (before_below total 0 n p before after (subst (λ l. AreHomes total 0 (keys_of l)) is homes)) within torn placed) there
+    placed_push before n p new (placed_kept n before old new (before_below total 0 n p before after (subst (λ l. AreHomes total 0 (keys_of l)) is homes))
+        within torn placed) there
 
 -- if all pages are home, each page is as the recovery would have it
 over_placed : (b : Bool) (found : Option (List ℕ)) (p f here : List ℕ) (among : Bool) → (b ≡ true → here ≡ p) → ((b || among) ≡ false → here ≡ f)
@@ -84,7 +90,8 @@ over_placed : (b : Bool) (found : Option (List ℕ)) (p f here : List ℕ) (amon
 over_placed true found p f here among is same rest = is refl
 over_placed false found p f here among is same rest = rest same
 
-pub placed_over : (es : List (ℕ × List ℕ)) (image : List ℕ) (f : ℕ → List ℕ) (n : ℕ) → AreInPlace es image → (is_listed n (keys_of es) ≡ false → page image n ≡ f n) → page image n ≡ overlay es f n
+pub placed_over : (es : List (ℕ × List ℕ)) (image : List ℕ) (f : ℕ → List ℕ) (n : ℕ) → AreInPlace es image
+    → (is_listed n (keys_of es) ≡ false → page image n ≡ f n) → page image n ≡ overlay es f n
 placed_over [] image f n placed same = same refl
 placed_over (e ∷ es) image f n placed same =
     over_placed (e.0 == n) (lookup (λ m. m == n) es) e.1 (f n) (page image n) (is_listed n (keys_of es))
@@ -168,36 +175,45 @@ redone_closed total old new redone = either (has_open_gate old) refl
     either false closed = ap (λ g. g == 1) (redone.gate_is ∙ ap (λ b. if b then 0 else gate old) closed) ∙ closed
 
 -- an image as the recovery leaves it stands for the same
-closed_stands : (total : ℕ) (old new marks : List ℕ) (home : ℕ → List ℕ) → IsClosed total old new → RecoversTo total old marks home → RecoversTo total new marks home
+closed_stands : (total : ℕ) (old new marks : List ℕ) (home : ℕ → List ℕ) → IsClosed total old new → RecoversTo total old marks home
+    → RecoversTo total new marks home
 closed_stands total old new marks home redone stands = record {
   least = stands.least;
   size = redone.size ∙ stands.size;
   clean = λ opened. absurd (false≢true (sym redone.closed ∙ opened));
   marks_are =
-      magic_same old new (omega (arith, stands.size, stands.least)) (omega (arith, redone.size)) (λ k lt. redone.mark_is k (omega (arith, lt)) (λ is. omega (arith, lt, is)))
+      magic_same old new (omega (arith, stands.size, stands.least)) (omega (arith, redone.size))
+          (λ k lt. redone.mark_is k (omega (arith, lt)) (λ is. omega (arith, lt, is)))
       ∙ stands.marks_are;
-  pages_are = λ n is. redo_closed new n redone.closed ∙ redone.pages_are n (home_positive total n is) (home_within total n stands.least is) ∙ stands.pages_are n is;
+  pages_are = λ n is. redo_closed new n redone.closed ∙ redone.pages_are n (home_positive total n is) (home_within total n stands.least is)
+      ∙ stands.pages_are n is;
 }
 
-pub redone_home : (total : ℕ) (old new marks : List ℕ) (home : ℕ → List ℕ) → IsRedone total old new → RecoversTo total old marks home → RecoversTo total new marks home
+pub redone_home : (total : ℕ) (old new marks : List ℕ) (home : ℕ → List ℕ) → IsRedone total old new → RecoversTo total old marks home
+    → RecoversTo total new marks home
 redone_home total old new marks home redone stands =
-    closed_stands total old new marks home (record { size = redone.size; closed = redone_closed total old new redone; mark_is = redone.mark_is; pages_are = redone.pages_are }) stands
+    closed_stands total old new marks home
+        (record { size = redone.size; closed = redone_closed total old new redone; mark_is = redone.mark_is; pages_are = redone.pages_are }) stands
 
 -- the same of an answer
-pub recovers_home : (total : ℕ) (result : Result Unit RecoverError) (old new marks : List ℕ) (home : ℕ → List ℕ) → Recovers total result old new → RecoversTo total old marks home
+pub recovers_home : (total : ℕ) (result : Result Unit RecoverError) (old new marks : List ℕ) (home : ℕ → List ℕ) → Recovers total result old new
+    → RecoversTo total old marks home
     → OnOk result (RecoversTo total new marks home)
 recovers_home total (Ok u) old new marks home recovers stands = redone_home total old new marks home recovers.1 stands
 recovers_home total (Err e) old new marks home recovers stands = tt
 
-pub recovers_closed : (total : ℕ) (result : Result Unit RecoverError) (old new : List ℕ) → Recovers total result old new → OnOk result (has_open_gate new ≡ false)
+pub recovers_closed : (total : ℕ) (result : Result Unit RecoverError) (old new : List ℕ) → Recovers total result old new
+    → OnOk result (has_open_gate new ≡ false)
 recovers_closed total (Ok u) old new recovers = redone_closed total old new recovers.1
 recovers_closed total (Err e) old new recovers = tt
 
 -- while the gate is open, the rest of the mark page is no matter
-open_alike : (total : ℕ) (now c marks : List ℕ) (home : ℕ → List ℕ) → GateAlone total now c → has_open_gate now ≡ true → has_open_gate c ≡ true → RecoversTo total now marks home → RecoversTo total c marks home
+open_alike : (total : ℕ) (now c marks : List ℕ) (home : ℕ → List ℕ) → GateAlone total now c → has_open_gate now ≡ true → has_open_gate c ≡ true
+    → RecoversTo total now marks home → RecoversTo total c marks home
 open_alike total now c marks home alone opened opened_too stands =
     let header = stands.clean opened in
-    let kept : (k : ℕ) → 4 ≤ k → k < 85 → page c k ≡ page now k = λ k low high. alone.pages_are k (omega (arith, low)) (omega (arith, high, stands.least)) in record {
+    let kept : (k : ℕ) → 4 ≤ k → k < 85 → page c k ≡ page now k = λ k low high. alone.pages_are k (omega (arith, low)) (omega (arith, high, stands.least)) in
+        record {
       least = stands.least;
       size = alone.size ∙ stands.size;
       clean = λ _. subst (IsHeader total) (sym (kept 4 (omega arith) (omega arith))) header;
@@ -216,18 +232,22 @@ pub gate_closes : (total : ℕ) (es : List (ℕ × List ℕ)) (start now c marks
 gate_closes total es start now c marks home homes holds differs placed alone stands = either (has_open_gate c) refl
   where
     either : (b : Bool) → has_open_gate c ≡ b → RecoversTo total c marks home
-    either false closed = closed_stands total start c marks home (closed_redone total es start now stands.least homes holds differs c placed alone closed) stands
+    either false closed = closed_stands total start c marks home (closed_redone total es start now stands.least homes holds differs c placed alone closed)
+        stands
     either true opened =
-        open_alike total now c marks home alone (still_open total es start now stands.least homes holds differs) opened (differs_home total es start now stands.least homes holds differs marks home stands)
+        open_alike total now c marks home alone (still_open total es start now stands.least homes holds differs) opened
+            (differs_home total es start now stands.least homes holds differs marks home stands)
 
 -- the gate was written: nothing else changed
-pub gate_laid : (total value : ℕ) (old new : List ℕ) → 85 ≤ total → length old ≡ 512 * total → new ≡ overwritten_at old 16 (value ∷ []) → GateAlone total old new × (gate new ≡ value)
+pub gate_laid : (total value : ℕ) (old new : List ℕ) → 85 ≤ total → length old ≡ 512 * total → new ≡ overwritten_at old 16 (value ∷ [])
+    → GateAlone total old new × (gate new ≡ value)
 gate_laid total value old new least long is = (
   gate_torn total old new least long (subst (IsTornWrite 16 1 old) (sym is) (torn-overwritten_at old 16 (value ∷ []) (omega (arith, least, long)))),
   ap gate is ∙ laid_gate old value (omega (arith, least, long)),
 )
 
-take_one : (place : ℕ) (es : List (ℕ × List ℕ)) (e : ℕ × List ℕ) → es ≡ take place es ++ e ∷ drop (place + 1) es → place ≤ length es → take (place + 1) es ≡ take place es ++ e ∷ []
+take_one : (place : ℕ) (es : List (ℕ × List ℕ)) (e : ℕ × List ℕ) → es ≡ take place es ++ e ∷ drop (place + 1) es → place ≤ length es
+    → take (place + 1) es ≡ take place es ++ e ∷ []
 take_one place es e is le =
     let at : place + 1 ≡ length (take place es) + 1 = omega (arith, length-take-le place es le) in
     ap (take (place + 1)) is ∙ ap (λ k. take k (take place es ++ e ∷ drop (place + 1) es)) at ∙ take-append-add (take place es) (e ∷ drop (place + 1) es) 1
@@ -235,11 +255,14 @@ take_one place es e is le =
 -- the next page of the change was written to its place
 pub goes_home : (total n place : ℕ) (p start old new : List ℕ) (es : List (ℕ × List ℕ)) → es ≡ take place es ++ (n, p) ∷ drop (place + 1) es → place < length es
     → AreHomes total 0 (keys_of es) → n < total → length start ≡ 512 * total → length p ≡ 512 → new ≡ overwritten_at old (512 * n) p
-    → AreInPlace (take place es) old → DiffersWithin total (keys_of es) start old → AreInPlace (take (place + 1) es) new × DiffersWithin total (keys_of es) start new
+    → AreInPlace (take place es) old → DiffersWithin total (keys_of es) start old → AreInPlace (take (place + 1) es) new
+        × DiffersWithin total (keys_of es) start new
 goes_home total n place p start old new es is more homes within long whole laid_is placed differs =
     let size : length old ≡ 512 * total = differs.size ∙ long in
     let torn : IsTornWrite (512 * n) 512 old new =
-    subst (IsTornWrite (512 * n) 512 old) (sym laid_is) (subst (λ (m : ℕ). IsTornWrite (512 * n) m old (overwritten_at old (512 * n) p)) whole (torn-overwritten_at old (512 * n) p (omega (arith, size, within)))) in
+    subst (IsTornWrite (512 * n) 512 old) (sym laid_is)
+        (subst (λ (m : ℕ). IsTornWrite (512 * n) m old (overwritten_at old (512 * n) p)) whole
+        (torn-overwritten_at old (512 * n) p (omega (arith, size, within)))) in
     let there : page new n ≡ p = ap (λ i. page i n) laid_is ∙ laid_page old p n (omega (arith, size, within)) whole in (
       subst (λ l. AreInPlace l new) (sym (take_one place es (n, p) is (omega (arith, more))))
           (placed_on total n p es (take place es) (drop (place + 1) es) old new is homes (omega (arith, size, within)) torn there placed),

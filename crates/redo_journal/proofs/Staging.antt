@@ -20,14 +20,17 @@ same_number m n is = grind (arith, nat_tests)
 
 -- the three ways of a page into a list
 module _ (n m : ℕ) (page first : List ℕ) (es : List (ℕ × List ℕ)) (P : List (ℕ × List ℕ) → Type 0) where
-  pub by_order : (n < m → P ((n, page) ∷ (m, first) ∷ es)) → (n ≡ m → P ((m, page) ∷ es)) → (m < n → P ((m, first) ∷ with_page es n page)) → P (with_page ((m, first) ∷ es) n page)
+  pub by_order : (n < m → P ((n, page) ∷ (m, first) ∷ es)) → (n ≡ m → P ((m, page) ∷ es)) → (m < n → P ((m, first) ∷ with_page es n page))
+      → P (with_page ((m, first) ∷ es) n page)
   by_order lower same higher =
       ⊎_elim (λ lt. at Less (nat_cmp_is n m Less lt) (lower lt))
-      (λ ge. ⊎_elim (λ lt. at Greater (nat_cmp_is n m Greater lt) (higher lt)) (λ le. at Equal (nat_cmp_is n m Equal (omega (arith, ge, le))) (same (omega (arith, ge, le)))) (cases_lt m n)) (cases_lt n m)
+      (λ ge. ⊎_elim (λ lt. at Greater (nat_cmp_is n m Greater lt) (higher lt))
+          (λ le. at Equal (nat_cmp_is n m Equal (omega (arith, ge, le))) (same (omega (arith, ge, le)))) (cases_lt m n)) (cases_lt n m)
     where
       at : (o : Ordering) → o ≡ nat_cmp n m → P (match_ordering o ((n, page) ∷ (m, first) ∷ es) ((m, page) ∷ es) ((m, first) ∷ with_page es n page))
           → P (with_page ((m, first) ∷ es) n page)
-      at o is has = subst (λ (order : Ordering). P (match_ordering order ((n, page) ∷ (m, first) ∷ es) ((m, page) ∷ es) ((m, first) ∷ with_page es n page))) is has
+      at o is has = subst (λ (order : Ordering). P (match_ordering order ((n, page) ∷ (m, first) ∷ es) ((m, page) ∷ es) ((m, first) ∷ with_page es n page)))
+          is has
 
 -- the page of its own number, and of any other
 pub finds_page : (es : List (ℕ × List ℕ)) (n : ℕ) (page : List ℕ) → lookup (λ m. m == n) (with_page es n page) ≡ Some page
@@ -88,8 +91,10 @@ found_among total last n page (e ∷ before) after homes =
       omega (arith, homes.1, rest.1),
     )
 
-pub found_at : (total n m place : ℕ) (page : List ℕ) (es : List (ℕ × List ℕ)) → AreHomes total 0 (keys_of es) → es ≡ take place es ++ (m, page) ∷ drop (place + 1) es → m ≡ n
+pub found_at : (total n m place : ℕ) (page : List ℕ) (es : List (ℕ × List ℕ)) → AreHomes total 0 (keys_of es)
+    → es ≡ take place es ++ (m, page) ∷ drop (place + 1) es → m ≡ n
     → lookup (λ k. k == n) es ≡ Some page
 found_at total n m place page es homes is same =
     subst (λ (k : ℕ). lookup (λ j. j == k) es ≡ Some page) same
-    (ap (λ l. lookup (λ j. j == m) l) is ∙ (found_among total 0 m page (take place es) (drop (place + 1) es) (subst (λ l. AreHomes total 0 (keys_of l)) is homes)).0)
+    (ap (λ l. lookup (λ j. j == m) l) is
+        ∙ (found_among total 0 m page (take place es) (drop (place + 1) es) (subst (λ l. AreHomes total 0 (keys_of l)) is homes)).0)

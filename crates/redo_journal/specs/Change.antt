@@ -95,7 +95,8 @@ pub record IsRedone (total : ℕ) (old new : List ℕ) : Type 0 where
 pub record Commits (total : ℕ) (entries : List (ℕ × List ℕ)) (old new : List ℕ) : Type 0 where
   pub holds : HoldsChange entries new
   pub header_is : page new HEADER_PAGE ≡ header_page (keys_of entries)
-  pub stands : (marks : List ℕ) (home : ℕ → List ℕ) → RecoversTo total old marks home → has_open_gate old ≡ false → RecoversTo total new marks (overlay entries home)
+  pub stands : (marks : List ℕ) (home : ℕ → List ℕ) → RecoversTo total old marks home → has_open_gate old ≡ false
+      → RecoversTo total new marks (overlay entries home)
 
 -- an image that stands for the pages without a change or with all of it
 abbrev pub IsBeforeOrAfter : ℕ → List (ℕ × List ℕ) → List ℕ → (ℕ → List ℕ) → List ℕ → Type 0

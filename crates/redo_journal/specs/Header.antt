@@ -30,7 +30,8 @@ page_numbers header = numbers_in (image_count header) (drop NUMBERS_AT header)
 
 -- the bytes of a header: the count, four zero bytes, the numbers, and zeros to the page's end
 unfoldable pub header_page : List ℕ → List ℕ
-header_page numbers = number_bytes (length numbers) ++ (replicate 4 0 ++ (flat_map number_bytes numbers ++ replicate (PAGE_SIZE - NUMBERS_AT - 4 * length numbers) 0))
+header_page numbers = number_bytes (length numbers)
+    ++ (replicate 4 0 ++ (flat_map number_bytes numbers ++ replicate (PAGE_SIZE - NUMBERS_AT - 4 * length numbers) 0))
 
 -- a count in its range
 abbrev pub IsCount : ℕ → Type 0

@@ -102,7 +102,8 @@ impl<'a, D: Disk> Journal<'a, D> {
         ensures recovers { IsTrue (D.is_known (disk_of self.old))
             → Recovers (total_of self.old) result (D.image (disk_of self.old)) (D.image (disk_of self.new)) }
         ensures home { IsTrue (D.is_known (disk_of self.old)) → (marks : List ℕ) (home : ℕ → List ℕ)
-            → RecoversTo (total_of self.old) (D.image (disk_of self.old)) marks home → OnOk result (RecoversTo (total_of self.old) (D.image (disk_of self.new)) marks home) }
+            → RecoversTo (total_of self.old) (D.image (disk_of self.old)) marks home
+                → OnOk result (RecoversTo (total_of self.old) (D.image (disk_of self.new)) marks home) }
         ensures closed { IsTrue (D.is_known (disk_of self.old)) → OnOk result (has_open_gate (D.image (disk_of self.new)) ≡ false) }
         ensures any_start { IsTrue (D.is_known (disk_of self.old)) → IsTrue (D.knows_crashes (disk_of self.old))
             → (marks : List ℕ) (home : ℕ → List ℕ) → RecoversTo (total_of self.old) (D.image (disk_of self.old)) marks home
@@ -114,7 +115,8 @@ impl<'a, D: Disk> Journal<'a, D> {
             → CrashesLeaveOnly D.moment D.crash_states_since (disk_of self.old) (disk_of self.new) (λ c. RecoversTo (total_of self.old) c marks home) }
         ensures kept { IsTrue (D.is_known (disk_of self.old)) → IsTrue (D.knows_crashes (disk_of self.old))
             → OnOk result (IsDurable (D.image (disk_of self.new)) (D.crash_states (disk_of self.new))) }
-        ensures unwritten { OnBadHeader result (CrashesLeaveOnly D.moment D.crash_states_since (disk_of self.old) (disk_of self.new) (D.crash_states (disk_of self.old))) }
+        ensures unwritten { OnBadHeader result
+            (CrashesLeaveOnly D.moment D.crash_states_since (disk_of self.old) (disk_of self.new) (D.crash_states (disk_of self.old))) }
         ensures cleared { OnOk result (staged_of self.new ≡ []) }
         ensures pages { HasPages D.size_of self.new }
         ensures total { total_of self.new ≡ total_of self.old }
@@ -161,7 +163,8 @@ impl<'a, D: Disk> Journal<'a, D> {
     /// The staged page of this number, of 512 bytes, or None if there is none. No device call is made and
     /// nothing is copied; the number is found by bisection.
     pub fn staged_page(&self, n: u32) -> Option<&[u8]>
-        ensures page { MatchOption result (lookup (λ m. m == n) (staged_of self.now) ≡ None) (λ page. lookup (λ m. m == n) (staged_of self.now) ≡ Some page.now) }
+        ensures page { MatchOption result (lookup (λ m. m == n) (staged_of self.now) ≡ None)
+            (λ page. lookup (λ m. m == n) (staged_of self.now) ≡ Some page.now) }
         ensures whole { IfSome result (λ page. length page.now ≡ PAGE_SIZE) }
     {
         self.staged.page(n)
@@ -191,7 +194,8 @@ impl<'a, D: Disk> Journal<'a, D> {
         ensures any_moment { IsTrue (D.is_known (disk_of self.old)) → IsTrue (D.knows_crashes (disk_of self.old))
             → IsDurable (D.image (disk_of self.old)) (D.crash_states (disk_of self.old)) → (marks : List ℕ) (home : ℕ → List ℕ)
             → RecoversTo (total_of self.old) (D.image (disk_of self.old)) marks home → has_open_gate (D.image (disk_of self.old)) ≡ false
-            → CrashesLeaveOnly D.moment D.crash_states_since (disk_of self.old) (disk_of self.new) (IsBeforeOrAfter (total_of self.old) (staged_of self.old) marks home) }
+            → CrashesLeaveOnly D.moment D.crash_states_since (disk_of self.old) (disk_of self.new)
+                (IsBeforeOrAfter (total_of self.old) (staged_of self.old) marks home) }
         ensures kept { IsTrue (D.is_known (disk_of self.old)) → IsTrue (D.knows_crashes (disk_of self.old))
             → OnOk result (IsDurable (D.image (disk_of self.new)) (D.crash_states (disk_of self.new))) }
         ensures staged { (staged_of self.new ≡ staged_of self.old) × (total_of self.new ≡ total_of self.old) }
@@ -213,8 +217,10 @@ impl<'a, D: Disk> Journal<'a, D> {
         requires pages { HasPages D.size_of self.old }
         ensures settles { IsTrue (D.is_known (disk_of self.old)) → HoldsChange (staged_of self.old) (D.image (disk_of self.old))
             → OnOk result (IsRedone (total_of self.old) (D.image (disk_of self.old)) (D.image (disk_of self.new))) }
-        ensures home { IsTrue (D.is_known (disk_of self.old)) → HoldsChange (staged_of self.old) (D.image (disk_of self.old)) → (marks : List ℕ) (home : ℕ → List ℕ)
-            → RecoversTo (total_of self.old) (D.image (disk_of self.old)) marks home → OnOk result (RecoversTo (total_of self.old) (D.image (disk_of self.new)) marks home) }
+        ensures home { IsTrue (D.is_known (disk_of self.old)) → HoldsChange (staged_of self.old) (D.image (disk_of self.old))
+            → (marks : List ℕ) (home : ℕ → List ℕ)
+            → RecoversTo (total_of self.old) (D.image (disk_of self.old)) marks home
+                → OnOk result (RecoversTo (total_of self.old) (D.image (disk_of self.new)) marks home) }
         ensures closed { IsTrue (D.is_known (disk_of self.old)) → OnOk result (gate (D.image (disk_of self.new)) ≡ CLOSED_GATE) }
         ensures any_moment { IsTrue (D.is_known (disk_of self.old)) → IsTrue (D.knows_crashes (disk_of self.old))
             → IsDurable (D.image (disk_of self.old)) (D.crash_states (disk_of self.old)) → HoldsChange (staged_of self.old) (D.image (disk_of self.old))
@@ -244,7 +250,8 @@ pub fn home_survives()
 
 /// An image as a recovery leaves it stands for what it stood for, as a contract. The call does nothing.
 pub fn home_is_redone()
-    ensures { (total : ℕ) (old new marks : List ℕ) (home : ℕ → List ℕ) → IsRedone total old new → RecoversTo total old marks home → RecoversTo total new marks home }
+    ensures { (total : ℕ) (old new marks : List ℕ) (home : ℕ → List ℕ) → IsRedone total old new → RecoversTo total old marks home
+        → RecoversTo total new marks home }
 {}
 
 /// Staging a page adds at most one page to a change, and no number but its own, as a contract. The call

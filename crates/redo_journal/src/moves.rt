@@ -23,7 +23,8 @@ pub(crate) fn commit_staged<D: Disk>(disk: &mut D, staged: &mut Staged) -> Resul
     requires size { D.size_of disk.old ≡ PAGE_SIZE * staged.old.total }
     requires least { LEAST_PAGES ≤ staged.old.total }
     ensures commits { IsTrue (D.is_known disk.old) → OnOk result (Commits staged.old.total staged.old.pages (D.image disk.old) (D.image disk.new)) }
-    ensures any_moment { IsTrue (D.is_known disk.old) → IsTrue (D.knows_crashes disk.old) → IsDurable (D.image disk.old) (D.crash_states disk.old) → (marks : List ℕ) (home : ℕ → List ℕ)
+    ensures any_moment { IsTrue (D.is_known disk.old) → IsTrue (D.knows_crashes disk.old) → IsDurable (D.image disk.old) (D.crash_states disk.old)
+        → (marks : List ℕ) (home : ℕ → List ℕ)
         → RecoversTo staged.old.total (D.image disk.old) marks home → has_open_gate (D.image disk.old) ≡ false
         → CrashesLeaveOnly D.moment D.crash_states_since disk.old disk.new (IsBeforeOrAfter staged.old.total staged.old.pages marks home) }
     ensures kept { IsTrue (D.is_known disk.old) → IsTrue (D.knows_crashes disk.old) → OnOk result (IsDurable (D.image disk.new) (D.crash_states disk.new)) }
@@ -43,7 +44,8 @@ fn write_home<D: Disk>(disk: &mut D, n: u32, page: &[u8]) -> Result<(), DiskFaul
     ensures image { IsTrue (D.is_known disk.old) → OnOk result (D.image disk.new ≡ overwritten_at (D.image disk.old) (PAGE_SIZE * n) page.now) }
     // A crash state that differed from another image at most within some pages, this one among them, still does.
     ensures crash { (total : ℕ) (numbers start : List ℕ) → length start ≡ PAGE_SIZE * total → n < total → IsTrue (is_listed n numbers)
-        → ((c : List ℕ) → D.crash_states disk.old c → DiffersWithin total numbers start c) → (c : List ℕ) → D.crash_states disk.new c → DiffersWithin total numbers start c }
+        → ((c : List ℕ) → D.crash_states disk.old c → DiffersWithin total numbers start c) → (c : List ℕ) → D.crash_states disk.new c
+            → DiffersWithin total numbers start c }
     ensures time { Elapses (D.moment disk.old) (D.moment disk.new) (D.crash_states_since disk.old) (D.crash_states_since disk.new) (D.crash_states disk.new) }
     ensures disk { DiskServes D.is_known D.knows_crashes D.size_of D.faults result disk.old disk.new }
     ensures reads { IsTrue (D.is_known disk.old) → D.reads disk.new ≡ D.reads disk.old }
@@ -56,7 +58,8 @@ fn write_all_home<D: Disk>(disk: &mut D, staged: &Staged) -> Result<(), DiskFaul
     requires size { D.size_of disk.old ≡ PAGE_SIZE * staged.now.total }
     requires least { LEAST_PAGES ≤ staged.now.total }
     ensures placed { IsTrue (D.is_known disk.old) → OnOk result (AreInPlace staged.now.pages (D.image disk.new)) }
-    ensures differs { IsTrue (D.is_known disk.old) → OnOk result (DiffersWithin staged.now.total (keys_of staged.now.pages) (D.image disk.old) (D.image disk.new)) }
+    ensures differs { IsTrue (D.is_known disk.old)
+        → OnOk result (DiffersWithin staged.now.total (keys_of staged.now.pages) (D.image disk.old) (D.image disk.new)) }
     ensures any_moment { IsTrue (D.is_known disk.old) → IsDurable (D.image disk.old) (D.crash_states disk.old)
         → CrashesLeaveOnly D.moment D.crash_states_since disk.old disk.new (DiffersWithin staged.now.total (keys_of staged.now.pages) (D.image disk.old)) }
     ensures crash { IsTrue (D.is_known disk.old) → IsDurable (D.image disk.old) (D.crash_states disk.old)
@@ -76,9 +79,11 @@ fn write_all_home<D: Disk>(disk: &mut D, staged: &Staged) -> Result<(), DiskFaul
 pub(crate) fn settle_staged<D: Disk>(disk: &mut D, staged: &mut Staged) -> Result<(), DiskFault>
     requires size { D.size_of disk.old ≡ PAGE_SIZE * staged.old.total }
     requires least { LEAST_PAGES ≤ staged.old.total }
-    ensures settles { IsTrue (D.is_known disk.old) → HoldsChange staged.old.pages (D.image disk.old) → OnOk result (IsRedone staged.old.total (D.image disk.old) (D.image disk.new)) }
+    ensures settles { IsTrue (D.is_known disk.old) → HoldsChange staged.old.pages (D.image disk.old)
+        → OnOk result (IsRedone staged.old.total (D.image disk.old) (D.image disk.new)) }
     ensures closed { IsTrue (D.is_known disk.old) → OnOk result (gate (D.image disk.new) ≡ CLOSED_GATE) }
-    ensures any_moment { IsTrue (D.is_known disk.old) → IsTrue (D.knows_crashes disk.old) → IsDurable (D.image disk.old) (D.crash_states disk.old) → HoldsChange staged.old.pages (D.image disk.old)
+    ensures any_moment { IsTrue (D.is_known disk.old) → IsTrue (D.knows_crashes disk.old) → IsDurable (D.image disk.old) (D.crash_states disk.old)
+        → HoldsChange staged.old.pages (D.image disk.old)
         → (marks : List ℕ) (home : ℕ → List ℕ) → RecoversTo staged.old.total (D.image disk.old) marks home
         → CrashesLeaveOnly D.moment D.crash_states_since disk.old disk.new (λ c. RecoversTo staged.old.total c marks home) }
     ensures kept { IsTrue (D.is_known disk.old) → IsTrue (D.knows_crashes disk.old) → OnOk result (IsDurable (D.image disk.new) (D.crash_states disk.new)) }

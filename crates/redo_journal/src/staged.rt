@@ -169,7 +169,8 @@ fn read_images<D: Disk>(disk: &mut D, body: &mut Vec<u8>, count: usize) -> Resul
     requires header { PAGE_SIZE ≤ vec_len body.old }
     requires room { PAGE_SIZE * (1 + CHANGE_LIMIT) ≤ vec_capacity body.old }
     requires size { PAGE_SIZE * LEAST_PAGES ≤ D.size_of disk.old }
-    ensures images { IsTrue (D.is_known disk.old) → OnOk result (drop PAGE_SIZE body.new.items ≡ take (PAGE_SIZE * count) (drop (PAGE_SIZE * FIRST_IMAGE) (D.image disk.old))) }
+    ensures images { IsTrue (D.is_known disk.old)
+        → OnOk result (drop PAGE_SIZE body.new.items ≡ take (PAGE_SIZE * count) (drop (PAGE_SIZE * FIRST_IMAGE) (D.image disk.old))) }
     ensures len { vec_len body.new ≡ PAGE_SIZE * (1 + count) }
     ensures capacity { vec_capacity body.old ≤ vec_capacity body.new }
     ensures quiet { D.quiet disk.old disk.new }

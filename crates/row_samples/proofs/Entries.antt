@@ -5,7 +5,8 @@ use Rattle.pivot_map.specs.Rows.{entry_of, entries_of}
 use Rattle.pivot_map.specs.declared.row.Row.{Row}
 
 -- one row more
-pub entries-more : (rows : List Row) (row : Row) (entries : List (ℕ × List ℕ)) (i : ℕ) (d : ℕ × List ℕ) → i < length entries → entry_of row ≡ get_or entries i d → entries_of rows ≡ take i entries → entries_of (rows ++ row ∷ []) ≡ take (i + 1) entries
+pub entries-more : (rows : List Row) (row : Row) (entries : List (ℕ × List ℕ)) (i : ℕ) (d : ℕ × List ℕ) → i < length entries
+    → entry_of row ≡ get_or entries i d → entries_of rows ≡ take i entries → entries_of (rows ++ row ∷ []) ≡ take (i + 1) entries
 entries-more rows row entries i d below is so_far =
     map-append entry_of rows (row ∷ [])
     ∙ ap (λ es. es ++ entry_of row ∷ []) so_far

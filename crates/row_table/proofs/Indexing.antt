@@ -29,11 +29,13 @@ same_place : (i j : ℕ) → ◌≡◌ {A = Option ℕ} (Some i) (Some j) → i 
 same_place i j h = cc
 
 -- the row at a place of the index has the id
-has_it : (rows : List Row) (place_of : ℕ → Option ℕ) → IsIndexed place_of (ids_of rows) → (id place : ℕ) (d : Row) → place_of id ≡ Some place → (get_or rows place d).id ≡ id
+has_it : (rows : List Row) (place_of : ℕ → Option ℕ) → IsIndexed place_of (ids_of rows) → (id place : ℕ) (d : Row) → place_of id ≡ Some place
+    → (get_or rows place d).id ≡ id
 has_it rows place_of indexed id place d is = sym (id_at rows place d (in_range rows place_of indexed id place is)) ∙ (indexed.held id place is).1
 
 -- the rows at two places have two ids
-pub apart : (rows : List Row) (place_of : ℕ → Option ℕ) → IsIndexed place_of (ids_of rows) → (i j : ℕ) (d e : Row) → i < j → j < length rows → (get_or rows i d).id ≢ (get_or rows j e).id
+pub apart : (rows : List Row) (place_of : ℕ → Option ℕ) → IsIndexed place_of (ids_of rows) → (i j : ℕ) (d e : Row) → i < j → j < length rows
+    → (get_or rows i d).id ≢ (get_or rows j e).id
 apart rows place_of indexed i j d e less below same =
     let count = length-map rows (λ (row : Row). row.id) in
     let left = ap place_of (sym (id_at rows i d (omega (arith, less, below)))) ∙ indexed.here i (omega (arith, less, below, count)) in
@@ -45,7 +47,8 @@ pub distinct : (rows : List Row) (place_of : ℕ → Option ℕ) → IsIndexed p
 distinct rows place_of indexed i j d less below = apart rows place_of indexed i j d d less below
 
 -- the row at the id's place is that of the id
-pub found : (rows : List Row) (place_of : ℕ → Option ℕ) → IsIndexed place_of (ids_of rows) → (id place : ℕ) (row : Row) → place_of id ≡ Some place → row ≡ get_or rows place row → row_with id rows ≡ Some row
+pub found : (rows : List Row) (place_of : ℕ → Option ℕ) → IsIndexed place_of (ids_of rows) → (id place : ℕ) (row : Row) → place_of id ≡ Some place
+    → row ≡ get_or rows place row → row_with id rows ≡ Some row
 found rows place_of indexed id place row is at =
     let below = in_range rows place_of indexed id place is in
     let mine = ap (λ (r : Row). r.id) at ∙ has_it rows place_of indexed id place row is in
@@ -63,7 +66,8 @@ missing rows place_of indexed id none = find-none (has_id id) rows (λ k d below
     none_is_some k h = cc
 
 -- an id with a row has a place
-pub known : (rows : List Row) (place_of : ℕ → Option ℕ) → IsIndexed place_of (ids_of rows) → (id : ℕ) (row : Row) → row_with id rows ≡ Some row → is_some (place_of id) ≡ true
+pub known : (rows : List Row) (place_of : ℕ → Option ℕ) → IsIndexed place_of (ids_of rows) → (id : ℕ) (row : Row) → row_with id rows ≡ Some row
+    → is_some (place_of id) ≡ true
 known rows place_of indexed id row there = from (place_of id) refl
   where
     from : (place : Option ℕ) → place_of id ≡ place → is_some (place_of id) ≡ true
@@ -76,9 +80,11 @@ free rows place_of indexed id none = from (place_of id) refl
   where
     from : (place : Option ℕ) → place_of id ≡ place → place_of id ≡ None
     from None is = is
-    from (Some place) is = absurd (row_is_none rows place (in_range rows place_of indexed id place is) (λ row at. sym none ∙ found rows place_of indexed id place row is at))
+    from (Some place) is = absurd (row_is_none rows place (in_range rows place_of indexed id place is) (λ row at. sym none
+        ∙ found rows place_of indexed id place row is at))
       where
-        row_is_none : (rows : List Row) (place : ℕ) → place < length rows → ((row : Row) → row ≡ get_or rows place row → ◌≡◌ {A = Option Row} None (Some row)) → ⊥
+        row_is_none : (rows : List Row) (place : ℕ) → place < length rows → ((row : Row) → row ≡ get_or rows place row → ◌≡◌ {A = Option Row} None (Some row))
+            → ⊥
         row_is_none [] place below h = omega (arith, below)
         row_is_none (r ∷ rs) place below h = none_is_row _ (h (get_or (r ∷ rs) place r) (get_or_default (r ∷ rs) place r _ below))
 
@@ -103,7 +109,8 @@ puts m n id place updates = record {
 some_is_none : (k : ℕ) → ◌≡◌ {A = Option ℕ} (Some k) None → ⊥
 some_is_none k h = cc
 
-pub indexed-push : (ids : List ℕ) (old new : ℕ → Option ℕ) (id : ℕ) → IsIndexed old ids → old id ≡ None → Puts old new id (Some (length ids)) → IsIndexed new (ids ++ id ∷ [])
+pub indexed-push : (ids : List ℕ) (old new : ℕ → Option ℕ) (id : ℕ) → IsIndexed old ids → old id ≡ None → Puts old new id (Some (length ids))
+    → IsIndexed new (ids ++ id ∷ [])
 indexed-push ids old new id indexed none put = record {
   here = λ place below. ⊎_elim (earlier place) (at_end place) (cases_eq_end place below);
   held = λ other place is. ⊎_elim (λ same. last other place same is) (λ another. older other place another is) (cases_eq other id);
@@ -142,7 +149,8 @@ pub record Moves (old new : List ℕ) (place : ℕ) : Type 0 where
   pub moved : place + 1 < length old → slice_index new place ≡ slice_index old (length old - 1)
   pub others : (k : ℕ) → k ≢ place → k + 1 < length old → slice_index new k ≡ slice_index old k
 
-module _ (ids new : List ℕ) (f g : ℕ → Option ℕ) (id place : ℕ) (indexed : IsIndexed f ids) (is : f id ≡ Some place) (moves : Moves ids new place) (cut : Puts f g id None) where
+module _ (ids new : List ℕ) (f g : ℕ → Option ℕ) (id place : ℕ) (indexed : IsIndexed f ids) (is : f id ≡ Some place) (moves : Moves ids new place)
+    (cut : Puts f g id None) where
   at_id : slice_index ids place ≡ id
   at_id = (indexed.held id place is).1
 
@@ -156,7 +164,8 @@ module _ (ids new : List ℕ) (f g : ℕ → Option ℕ) (id place : ℕ) (index
   -- and an id at another place than the last is not the last
   not_last : (k : ℕ) → k + 1 < length ids → slice_index ids k ≢ slice_index ids (length ids - 1)
   not_last k below same =
-      let one = same_place k (length ids - 1) (sym (indexed.here k (omega (arith, below))) ∙ ap f same ∙ indexed.here (length ids - 1) (omega (arith, below))) in
+      let one = same_place k (length ids - 1) (sym (indexed.here k (omega (arith, below))) ∙ ap f same
+          ∙ indexed.here (length ids - 1) (omega (arith, below))) in
       omega (arith, below, one)
 
   kept : (k : ℕ) → k < length ids → k ≢ place → g (slice_index ids k) ≡ Some k
@@ -224,7 +233,8 @@ module _ (ids new : List ℕ) (f g : ℕ → Option ℕ) (id place : ℕ) (index
           let count = moves.count in
           let under = old.0 in
           let apart = not_place other k was in
-          let short : k + 1 < length ids = ⊎_elim (λ less. less) (λ from. absurd (another (sym old.1 ∙ ap (slice_index ids) (end k from under) ∙ sym last_is))) (cases_lt (k + 1) (length ids)) in
+          let short : k + 1 < length ids = ⊎_elim (λ less. less) (λ from. absurd (another (sym old.1 ∙ ap (slice_index ids) (end k from under) ∙ sym last_is)))
+              (cases_lt (k + 1) (length ids)) in
           (omega (arith, short, count), moves.others k apart short ∙ old.1)
         where
           end : (k : ℕ) → length ids ≤ k + 1 → k < length ids → k ≡ length ids - 1
@@ -245,7 +255,8 @@ pub same_entries : (m n : BTreeMap ℕ ℕ) (ids : List ℕ) → n.entries ≡ m
 same_entries m n ids same indexed = subst (λ es. IsIndexed (λ q. lookup (is_at (nat_cmp q)) es) ids) (sym same) indexed
 
 -- one more row after the others
-pub pushed : (rows : List Row) (row : Row) (old new : ℕ → Option ℕ) (place : ℕ) → IsIndexed old (ids_of rows) → row_with row.id rows ≡ None → place ≡ length rows → Puts old new row.id (Some place) → IsIndexed new (ids_of (rows ++ row ∷ []))
+pub pushed : (rows : List Row) (row : Row) (old new : ℕ → Option ℕ) (place : ℕ) → IsIndexed old (ids_of rows) → row_with row.id rows ≡ None
+    → place ≡ length rows → Puts old new row.id (Some place) → IsIndexed new (ids_of (rows ++ row ∷ []))
 pushed rows row old new place indexed none is put =
     let count : place ≡ length (ids_of rows) = is ∙ sym (length-map rows (λ (row : Row). row.id)) in
     subst (IsIndexed new) (sym (map-append (λ (row : Row). row.id) rows (row ∷ [])))
@@ -297,7 +308,8 @@ moves_of (r ∷ rs) new place below count moved others = record {
     new_count = length-map new (λ (row : Row). row.id)
 
 -- the rows without an id are a permutation of what `swap_remove` leaves
-remaining : (rows : List Row) (place : ℕ) (row : Row) (id : ℕ) → place < length rows → row ≡ get_or rows place row → row.id ≡ id → row_with id (swap_remove rows place row) ≡ None → IsPermutation (rows_without id rows) (swap_remove rows place row)
+remaining : (rows : List Row) (place : ℕ) (row : Row) (id : ℕ) → place < length rows → row ≡ get_or rows place row → row.id ≡ id
+    → row_with id (swap_remove rows place row) ≡ None → IsPermutation (rows_without id rows) (swap_remove rows place row)
 remaining rows place row id below at mine none =
     let new = swap_remove rows place row in
     let all = rows_without-permutation rows (row ∷ new) id (IsPermutation-swap_remove rows place row below at) in
@@ -334,7 +346,8 @@ module _ {rows new : List Row} {place : ℕ} {row : Row} {id : ℕ} {f g : ℕ �
 
   moved_ids : Moves (ids_of rows) (ids_of new) place
   moved_ids = subst (λ xs. Moves (ids_of rows) (ids_of xs) place) (sym goes.items)
-      (moves_of rows (swap_remove rows place row) place within (count_after rows place row within) (moved_after rows place row within) (others_after rows place row within))
+      (moves_of rows (swap_remove rows place row) place within (count_after rows place row within) (moved_after rows place row within)
+          (others_after rows place row within))
 
   left : row_with id new ≡ None → IsPermutation (rows_without id rows) new
   left none =
@@ -358,7 +371,8 @@ module _ {rows new : List Row} {place : ℕ} {row : Row} {id : ℕ} {f g : ℕ �
     moved_id = let count = one_fewer in id_at new place moved (omega (arith, more, count)) ∙ ap (λ (r : Row). r.id) (sym is)
 
     pub moved_known : is_some (g moved.id) ≡ true
-    moved_known = ap (λ n. is_some (g n)) (sym moved_id) ∙ ap is_some (last_stays (ids_of rows) (ids_of new) f g id place goes.indexed goes.there moved_ids goes.cut more_ids)
+    moved_known = ap (λ n. is_some (g n)) (sym moved_id)
+        ∙ ap is_some (last_stays (ids_of rows) (ids_of new) f g id place goes.indexed goes.there moved_ids goes.cut more_ids)
 
     module _ (h : ℕ → Option ℕ) (put : Puts g h moved.id (Some place)) where
       put_there : Puts g h (slice_index (ids_of new) place) (Some place)
@@ -368,14 +382,16 @@ module _ {rows new : List Row} {place : ℕ} {row : Row} {id : ℕ} {f g : ℕ �
       another_gone = indexed-moved (ids_of rows) (ids_of new) f g id place goes.indexed goes.there moved_ids goes.cut h more_ids put_there
 
       pub another_remaining : IsPermutation (rows_without id rows) new
-      another_remaining = left (missing new h another_gone id (id_gone (ids_of rows) (ids_of new) f g id place goes.indexed goes.there moved_ids goes.cut h more_ids put_there))
+      another_remaining = left (missing new h another_gone id
+          (id_gone (ids_of rows) (ids_of new) f g id place goes.indexed goes.there moved_ids goes.cut h more_ids put_there))
 
 -- if no row has the id
 pub all_remaining : (rows : List Row) (id : ℕ) → row_with id rows ≡ None → IsPermutation (rows_without id rows) rows
 all_remaining rows id none = subst (λ xs. IsPermutation xs rows) (sym (without_absent rows id none)) (IsPermutation-refl rows)
 
 -- what `get` of a slice returns at the id's place
-pub lent : (rows : List Row) (place_of : ℕ → Option ℕ) → IsIndexed place_of (ids_of rows) → (id place : ℕ) → place_of id ≡ Some place → (result : Option (Bor Row)) → IsItemAt rows place result → option_copied result ≡ row_with id rows
+pub lent : (rows : List Row) (place_of : ℕ → Option ℕ) → IsIndexed place_of (ids_of rows) → (id place : ℕ) → place_of id ≡ Some place
+    → (result : Option (Bor Row)) → IsItemAt rows place result → option_copied result ≡ row_with id rows
 lent rows place_of indexed id place is (Some row) item = sym (found rows place_of indexed id place row.now is item.1)
 lent rows place_of indexed id place is None item =
     absurd (let below = in_range rows place_of indexed id place is in let past = item.3 in omega (arith, below, past))

@@ -2,7 +2,8 @@
 use Rattle.std.proofs.Common.{◌≡◌, ℕ, ◌<◌, Bool, true, false, cond, Some, None, List, [], ◌∷◌, length, get_or, find, refl, sym, ap, ◌∙◌, zero, suc, arith}
 
 -- it is at a place, and none before it passes
-pub find-at : {X : Type 0} (p : X → Bool) (xs : List X) (place : ℕ) (x : X) → place < length xs → x ≡ get_or xs place x → p x ≡ true → ((k : ℕ) (d : X) → k < place → p (get_or xs k d) ≡ false) → find p xs ≡ Some x
+pub find-at : {X : Type 0} (p : X → Bool) (xs : List X) (place : ℕ) (x : X) → place < length xs → x ≡ get_or xs place x → p x ≡ true
+    → ((k : ℕ) (d : X) → k < place → p (get_or xs k d) ≡ false) → find p xs ≡ Some x
 find-at p [] place x below is passes before = absurd (omega (arith, below))
 find-at p (y ∷ ys) zero x below is passes before =
     ap (λ b. cond b (Some y) (find p ys)) (ap p (sym is) ∙ passes) ∙ ap Some (sym is)

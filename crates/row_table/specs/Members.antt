@@ -37,8 +37,10 @@ have_ids (rows ∷ tables) h = (HasDistinctEntryIds-map entry_of rows (h 0 [] (o
 -- ---- what the members say of the rows
 
 -- the object under a key is that of the row with the id
-pub object_under : (tables : List (List Row)) (c id : ℕ) → lookup (is_at (key_cmp (c, id))) (members_of (map entries_of tables)) ≡ option_map (λ (row : Row). row.object) (row_with id (rows_at tables c))
-object_under tables c id = object_at-members_of (map entries_of tables) c id ∙ ap (λ rows. object_with_id rows id) (entries_at tables c) ∙ object_with_id-map entry_of (rows_at tables c) id
+pub object_under : (tables : List (List Row)) (c id : ℕ)
+    → lookup (is_at (key_cmp (c, id))) (members_of (map entries_of tables)) ≡ option_map (λ (row : Row). row.object) (row_with id (rows_at tables c))
+object_under tables c id = object_at-members_of (map entries_of tables) c id ∙ ap (λ rows. object_with_id rows id) (entries_at tables c)
+    ∙ object_with_id-map entry_of (rows_at tables c) id
 
 pub count_under : (tables : List (List Row)) (c : ℕ) → member_count (members_of (map entries_of tables)) c ≡ length (rows_at tables c)
 count_under tables c = member_count-members_of (map entries_of tables) c ∙ ap length (entries_at tables c) ∙ length-map (rows_at tables c) entry_of
@@ -56,7 +58,8 @@ length_under tables = length-members_of (map entries_of tables) ∙ sizes tables
 
 -- the rows of a collection, in another order
 pub rows_under : (tables : List (List Row)) (c : ℕ) → IsPermutation (entries_in (members_of (map entries_of tables)) c) (entries_of (rows_at tables c))
-rows_under tables c = subst (λ (rows : List Entry). IsPermutation (entries_in (members_of (map entries_of tables)) c) rows) (entries_at tables c) (entries_in-members_of (map entries_of tables) c)
+rows_under tables c = subst (λ (rows : List Entry). IsPermutation (entries_in (members_of (map entries_of tables)) c) rows) (entries_at tables c)
+    (entries_in-members_of (map entries_of tables) c)
 
 -- a table has no more rows than all tables together
 pub length-part : (tables : List (List Row)) (c : ℕ) → length (rows_at tables c) ≤ sum_by length tables
@@ -75,7 +78,8 @@ module _ (tables : List (List Row)) (c : ℕ) (row : Row) (rows : List Row) (bel
       let grown : entries_of rows ≡ table_at es c ++ entry_of row ∷ [] =
       ap entries_of is ∙ map-append entry_of (rows_at tables c) (row ∷ []) ∙ ap (λ es. es ++ entry_of row ∷ []) (sym (entries_at tables c)) in
       let absent : object_with_id (table_at es c) row.id ≡ None =
-      ap (λ rows. object_with_id rows row.id) (entries_at tables c) ∙ object_with_id-map entry_of (rows_at tables c) row.id ∙ ap (option_map (λ (row : Row). row.object)) none in
+      ap (λ rows. object_with_id rows row.id) (entries_at tables c) ∙ object_with_id-map entry_of (rows_at tables c) row.id
+          ∙ ap (option_map (λ (row : Row). row.object)) none in
       ap members_of (map-set entries_of tables c rows ∙ ap (slice_set es c) grown)
       ∙ members_of-added es c row.id row.object (have_ids tables distinct) (let many = length-map tables entries_of in omega (arith, many, below)) absent
 
@@ -84,7 +88,8 @@ module _ (tables : List (List Row)) (c : ℕ) (row : Row) (rows : List Row) (bel
       let all = sum_by-set length tables c rows [] below in
       let one = ap length is ∙ length-append (rows_at tables c) (row ∷ []) in omega (arith, all, one)
 
-pub AreRows-push : (admitted : List ℕ → Type 0) (dist : List ℕ → List ℕ → ℕ) (pivots : List (List ℕ)) (rows : List Row) (row : Row) → AreRows admitted dist pivots rows → length rows < 2 ^ 31 → row_with row.id rows ≡ None
+pub AreRows-push : (admitted : List ℕ → Type 0) (dist : List ℕ → List ℕ → ℕ) (pivots : List (List ℕ)) (rows : List Row) (row : Row)
+    → AreRows admitted dist pivots rows → length rows < 2 ^ 31 → row_with row.id rows ≡ None
     → admitted row.object → row.vect ≡ cells_of dist pivots row.object → AreRows admitted dist pivots (rows ++ row ∷ [])
 AreRows-push admitted dist pivots rows row are room none valid cells = record {
   few = let more = length-append rows (row ∷ []) in omega (arith, more, room);
@@ -96,13 +101,16 @@ AreRows-push admitted dist pivots rows row are room none valid cells = record {
 -- ---- a row less
 
 -- a table without the row of an id
-module _ (tables : List (List Row)) (c id : ℕ) (left : List Row) (below : c < length tables) (moved : IsPermutation (rows_without id (rows_at tables c)) left) where
-  pub members_of-rows_without : All HasDistinctIds tables → members_of (map entries_of (slice_set tables c left)) ≡ without_object (members_of (map entries_of tables)) c id
+module _ (tables : List (List Row)) (c id : ℕ) (left : List Row) (below : c < length tables) (moved : IsPermutation (rows_without id (rows_at tables c)) left)
+    where
+  pub members_of-rows_without : All HasDistinctIds tables
+      → members_of (map entries_of (slice_set tables c left)) ≡ without_object (members_of (map entries_of tables)) c id
   members_of-rows_without distinct =
       let es = map entries_of tables in
       ap members_of (map-set entries_of tables c left)
       ∙ members_of-removed es c id (entries_of left) (have_ids tables distinct) (let many = length-map tables entries_of in omega (arith, many, below))
-      (subst (λ (rows : List Entry). IsPermutation (entries_without rows id) (entries_of left)) (sym (entries_at tables c)) (entries_without-moved entry_of (rows_at tables c) left id moved))
+      (subst (λ (rows : List Entry). IsPermutation (entries_without rows id) (entries_of left)) (sym (entries_at tables c))
+          (entries_without-moved entry_of (rows_at tables c) left id moved))
 
   pub sum-rows_without : sum_by length (slice_set tables c left) ≤ sum_by length tables
   sum-rows_without =
@@ -110,11 +118,13 @@ module _ (tables : List (List Row)) (c id : ℕ) (left : List Row) (below : c < 
       let many = length_permutation (rows_without id (rows_at tables c)) left moved in
       let less = rows_without-length (rows_at tables c) id in omega (arith, all, many, less)
 
-pub AreRows-rows_without : (admitted : List ℕ → Type 0) (dist : List ℕ → List ℕ → ℕ) (pivots : List (List ℕ)) (rows left : List Row) (id : ℕ) → IsPermutation (rows_without id rows) left → AreRows admitted dist pivots rows → AreRows admitted dist pivots left
+pub AreRows-rows_without : (admitted : List ℕ → Type 0) (dist : List ℕ → List ℕ → ℕ) (pivots : List (List ℕ)) (rows left : List Row) (id : ℕ)
+    → IsPermutation (rows_without id rows) left → AreRows admitted dist pivots rows → AreRows admitted dist pivots left
 AreRows-rows_without admitted dist pivots rows left id moved are =
     let others = λ (row : Row). not (has_id id row) in
     record {
-      few = let many = length_permutation (rows_without id rows) left moved in let less = rows_without-length rows id in let few = are.few in omega (arith, many, less, few);
+      few = let many = length_permutation (rows_without id rows) left moved in let less = rows_without-length rows id in let few = are.few in
+          omega (arith, many, less, few);
       objects = All-permutation (λ (row : Row). admitted row.object) _ left moved (All-filter others (λ (row : Row). admitted row.object) rows are.objects);
       vects = All-permutation (λ (row : Row). row.vect ≡ cells_of dist pivots row.object) _ left moved
           (All-filter others (λ (row : Row). row.vect ≡ cells_of dist pivots row.object) rows are.vects);

@@ -88,7 +88,8 @@ row_with-permutation rows others distinct same id = from (row_with id others) re
     back : (row : Row) → row_with id others ≡ Some row → row_with id rows ≡ Some row
     back row there =
         ap (λ n. row_with n rows) (sym (row_with-id others id row there))
-        ∙ row_with-Contains rows distinct row (Contains-permutation others rows row (IsPermutation-sym rows others same) (Contains-row_with others id row there))
+        ∙ row_with-Contains rows distinct row
+            (Contains-permutation others rows row (IsPermutation-sym rows others same) (Contains-row_with others id row there))
 
     -- and if there is none among them, there is none among the rows
     nowhere : row_with id others ≡ None → (k : ℕ) (d : Row) → k < length rows → has_id id (get_or rows k d) ≡ false
@@ -107,7 +108,8 @@ pub HasDistinctIds-push : (rows : List Row) (row : Row) → HasDistinctIds rows 
 HasDistinctIds-push rows row distinct none = all_pairs_push (λ (a b : Row). a.id ≢ b.id) rows row distinct (row_with-none rows row.id none)
 
 -- the new row is found by its id, and the others as before
-pub row_with-push : (rows : List Row) (row : Row) (id : ℕ) → row_with row.id rows ≡ None → row_with id (rows ++ row ∷ []) ≡ (if row.id == id then Some row else row_with id rows)
+pub row_with-push : (rows : List Row) (row : Row) (id : ℕ) → row_with row.id rows ≡ None
+    → row_with id (rows ++ row ∷ []) ≡ (if row.id == id then Some row else row_with id rows)
 row_with-push rows row id none = find-append (has_id id) rows (row ∷ []) ∙ from (row.id == id) refl
   where
     nothing : (found : Option Row) → option_or found None ≡ found
@@ -125,7 +127,8 @@ row_with-push rows row id none = find-append (has_id id) rows (row ∷ []) ∙ f
 -- ---- the rows without an id
 
 -- the rows without an id, by whether the first has it
-pub rows_without-cons : (row : Row) (rows : List Row) (id : ℕ) (b : Bool) → has_id id row ≡ b → rows_without id (row ∷ rows) ≡ cond b (rows_without id rows) (row ∷ rows_without id rows)
+pub rows_without-cons : (row : Row) (rows : List Row) (id : ℕ) (b : Bool) → has_id id row ≡ b
+    → rows_without id (row ∷ rows) ≡ cond b (rows_without id rows) (row ∷ rows_without id rows)
 rows_without-cons row rows id b is = ap (λ b. cond (not b) (row ∷ rows_without id rows) (rows_without id rows)) is ∙ turned b
   where
     turned : (b : Bool) → cond (not b) (row ∷ rows_without id rows) (rows_without id rows) ≡ cond b (rows_without id rows) (row ∷ rows_without id rows)
@@ -183,12 +186,14 @@ rows_without-length (row ∷ rows) id = from (not (has_id id row)) (rows_without
     from false h = omega (arith, h)
 
 -- if a row has the id, they are one fewer
-pub length-rows_without : (rows : List Row) → HasDistinctIds rows → (id : ℕ) (row : Row) → row_with id rows ≡ Some row → length (rows_without id rows) + 1 ≡ length rows
+pub length-rows_without : (rows : List Row) → HasDistinctIds rows → (id : ℕ) (row : Row) → row_with id rows ≡ Some row
+    → length (rows_without id rows) + 1 ≡ length rows
 length-rows_without [] distinct id row there = absurd (none_is_row row there)
 length-rows_without (r ∷ rs) distinct id row there =
     from (has_id id r) refl (length-rows_without rs (λ i j d less below. distinct (suc i) (suc j) d (omega (arith, less)) (omega (arith, below))) id row)
   where
-    from : (b : Bool) → has_id id r ≡ b → (row_with id rs ≡ Some row → length (rows_without id rs) + 1 ≡ length rs) → length (rows_without id (r ∷ rs)) + 1 ≡ length (r ∷ rs)
+    from : (b : Bool) → has_id id r ≡ b → (row_with id rs ≡ Some row → length (rows_without id rs) + 1 ≡ length rs)
+        → length (rows_without id (r ∷ rs)) + 1 ≡ length (r ∷ rs)
     from true is rest =
         let none = find-none (has_id id) rs (λ k d below. not_equal (get_or rs k d).id id (λ same.
         distinct 0 (suc k) d (omega arith) (omega (arith, below)) (from_equal r.id id is ∙ sym same))) in

@@ -26,9 +26,11 @@ module _ {A : Type 0} (f : A → Entry) where
   pub entries_without-map : (xs : List A) (id : ℕ) → entries_without (map f xs) id ≡ map f (filter (λ x. not ((f x).0 == id)) xs)
   entries_without-map [] id = refl
   entries_without-map (x ∷ xs) id =
-      ap (λ rest. cond (not ((f x).0 == id)) (f x ∷ rest) rest) (entries_without-map xs id) ∙ kept_if (not ((f x).0 == id)) x (filter (λ x. not ((f x).0 == id)) xs)
+      ap (λ rest. cond (not ((f x).0 == id)) (f x ∷ rest) rest) (entries_without-map xs id)
+          ∙ kept_if (not ((f x).0 == id)) x (filter (λ x. not ((f x).0 == id)) xs)
 
-  each : (P : Entry → Type 0) (xs : List A) → ((k : ℕ) (d : A) → k < length xs → P (f (get_or xs k d))) → (k : ℕ) (d : Entry) → k < length (map f xs) → P (get_or (map f xs) k d)
+  each : (P : Entry → Type 0) (xs : List A) → ((k : ℕ) (d : A) → k < length xs → P (f (get_or xs k d))) → (k : ℕ) (d : Entry) → k < length (map f xs)
+      → P (get_or (map f xs) k d)
   each P [] h k d below = absurd (omega arith)
   each P (x ∷ xs) h zero d below = h 0 x (omega arith)
   each P (x ∷ xs) h (suc k) d below = each P xs (λ j e inside. h (suc j) e (omega (arith, inside))) k d (omega (arith, below))
@@ -38,15 +40,18 @@ module _ {A : Type 0} (f : A → Entry) where
   HasDistinctEntryIds-map [] h i j d less below = absurd (omega arith)
   HasDistinctEntryIds-map (x ∷ xs) h zero zero d less below = absurd (omega arith)
   HasDistinctEntryIds-map (x ∷ xs) h (suc i) zero d less below = absurd (omega arith)
-  HasDistinctEntryIds-map (x ∷ xs) h zero (suc j) d less below = each (λ row. (f x).0 ≢ row.0) xs (λ k e inside. h 0 (suc k) e (omega arith) (omega (arith, inside))) j d (omega (arith, below))
+  HasDistinctEntryIds-map (x ∷ xs) h zero (suc j) d less below =
+      each (λ row. (f x).0 ≢ row.0) xs (λ k e inside. h 0 (suc k) e (omega arith) (omega (arith, inside))) j d (omega (arith, below))
   HasDistinctEntryIds-map (x ∷ xs) h (suc i) (suc j) d less below =
-      HasDistinctEntryIds-map xs (λ k l e first inside. h (suc k) (suc l) e (omega (arith, first)) (omega (arith, inside))) i j d (omega (arith, less)) (omega (arith, below))
+      HasDistinctEntryIds-map xs (λ k l e first inside. h (suc k) (suc l) e (omega (arith, first)) (omega (arith, inside))) i j d (omega (arith, less))
+          (omega (arith, below))
 
   -- what is so of each item's row is so of the rows
   pub All-rows : (P : Entry → Type 0) (xs : List A) → All (λ x. P (f x)) xs → All P (map f xs)
   All-rows P xs h = λ k d below. each P xs h k d below
 
   -- the items without an id, in another order, give the rows without it in another order
-  pub entries_without-moved : (xs ys : List A) (id : ℕ) → IsPermutation (filter (λ x. not ((f x).0 == id)) xs) ys → IsPermutation (entries_without (map f xs) id) (map f ys)
+  pub entries_without-moved : (xs ys : List A) (id : ℕ) → IsPermutation (filter (λ x. not ((f x).0 == id)) xs) ys
+      → IsPermutation (entries_without (map f xs) id) (map f ys)
   entries_without-moved xs ys id moved =
       rw (entries_without-map xs id) (IsPermutation-map f (filter (λ x. not ((f x).0 == id)) xs) ys moved)

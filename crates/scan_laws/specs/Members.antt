@@ -36,7 +36,8 @@ at c id = is_at (key_cmp (c, id))
 -- ---- tests of keys
 
 at_is : (c id d i : ℕ) → at c id (d, i) ≡ ((c == d) && (id == i))
-at_is c id d i = sym (tied_then (nat_cmp c d) (nat_cmp id i)) ∙ ap (λ b. b && is_eq (nat_cmp id i)) (unsigned_tied c d) ∙ ap (λ b. (c == d) && b) (unsigned_tied id i)
+at_is c id d i = sym (tied_then (nat_cmp c d) (nat_cmp id i)) ∙ ap (λ b. b && is_eq (nat_cmp id i)) (unsigned_tied c d)
+    ∙ ap (λ b. (c == d) && b) (unsigned_tied id i)
 
 id_test : (c id d i : ℕ) → c ≡ d → ((c == d) && (id == i)) ≡ (i == id)
 id_test c id d i e = grind (arith, nat_tests)
@@ -52,7 +53,8 @@ at_other c id d i other = at_is c id d i ∙ other_test c id d i other
 
 -- ---- what is found
 
-found_here : (c id d : ℕ) (rows : List Entry) (rest : Members) → c ≡ d → lookup (at c id) rest ≡ None → lookup (at c id) (keyed_entries d rows ++ rest) ≡ object_with_id rows id
+found_here : (c id d : ℕ) (rows : List Entry) (rest : Members) → c ≡ d → lookup (at c id) rest ≡ None
+    → lookup (at c id) (keyed_entries d rows ++ rest) ≡ object_with_id rows id
 found_here c id d [] rest e none = none
 found_here c id d (row ∷ rows) rest e none =
     ap (λ b. cond b (Some row.1) (lookup (at c id) (keyed_entries d rows ++ rest))) (at_same c id d row.0 e)
@@ -78,7 +80,8 @@ found_in : (c id : ℕ) (tables : List (List Entry)) → lookup (at c id) (keyed
 found_in c id tables = found_from c id 0 c tables (omega arith)
 
 -- the object under a key is that of the first row of the collection's table with the id
-pub object_at-members_of : (tables : List (List Entry)) (c id : ℕ) → lookup (is_at (key_cmp (c, id))) (members_of tables) ≡ object_with_id (table_at tables c) id
+pub object_at-members_of : (tables : List (List Entry)) (c id : ℕ)
+    → lookup (is_at (key_cmp (c, id))) (members_of tables) ≡ object_with_id (table_at tables c) id
 unfolding members_of
 object_at-members_of tables c id = lookup-sorted_by key_order (c, id) (keyed_tables 0 tables) ∙ found_in c id tables
 
@@ -115,7 +118,8 @@ rows_later c d (rows ∷ tables) below =
 rows_from : (c d k : ℕ) (tables : List (List Entry)) → c ≡ d + k → entries_in (keyed_tables d tables) c ≡ table_at tables k
 unfolding entries_in
 rows_from c d k [] e = refl
-rows_from c d zero (rows ∷ tables) e = rows_here c d rows (keyed_tables (suc d) tables) (same_number c d (omega arith)) (rows_later c (suc d) tables (omega arith))
+rows_from c d zero (rows ∷ tables) e = rows_here c d rows (keyed_tables (suc d) tables) (same_number c d (omega arith))
+    (rows_later c (suc d) tables (omega arith))
 rows_from c d (suc k) (rows ∷ tables) e =
     rows_past c d rows (keyed_tables (suc d) tables) (further_number c d k e) ∙ rows_from c (suc d) k tables (omega arith)
 
@@ -128,7 +132,8 @@ pub entries_in-members_of : (tables : List (List Entry)) (c : ℕ) → IsPermuta
 unfolding members_of
 entries_in-members_of tables c =
     subst (IsPermutation (entries_in (sorted_by key_before (keyed_tables 0 tables)) c)) (rows_from c 0 c tables (omega arith))
-    (IsPermutation-entries_in c (sorted_by key_before (keyed_tables 0 tables)) (keyed_tables 0 tables) (sorted_by-permutation key_before (keyed_tables 0 tables)))
+    (IsPermutation-entries_in c (sorted_by key_before (keyed_tables 0 tables)) (keyed_tables 0 tables)
+        (sorted_by-permutation key_before (keyed_tables 0 tables)))
 
 -- ---- counts
 
@@ -147,7 +152,8 @@ length-entries_in c (e ∷ es) =
 -- a collection has as many members as its table has rows
 pub member_count-members_of : (tables : List (List Entry)) (c : ℕ) → member_count (members_of tables) c ≡ length (table_at tables c)
 member_count-members_of tables c =
-    sym (length-entries_in c (members_of tables)) ∙ sym (length_permutation (entries_in (members_of tables) c) (table_at tables c) (entries_in-members_of tables c))
+    sym (length-entries_in c (members_of tables))
+        ∙ sym (length_permutation (entries_in (members_of tables) c) (table_at tables c) (entries_in-members_of tables c))
 
 length-keyed_tables : (c : ℕ) (tables : List (List Entry)) → length (keyed_tables c tables) ≡ sum_by length tables
 length-keyed_tables c [] = refl
@@ -161,7 +167,8 @@ length-keyed_tables c (rows ∷ tables) =
 pub length-members_of : (tables : List (List Entry)) → length (members_of tables) ≡ sum_by length tables
 unfolding members_of
 length-members_of tables =
-    sym (length_permutation (sorted_by key_before (keyed_tables 0 tables)) (keyed_tables 0 tables) (sorted_by-permutation key_before (keyed_tables 0 tables))) ∙ length-keyed_tables 0 tables
+    sym (length_permutation (sorted_by key_before (keyed_tables 0 tables)) (keyed_tables 0 tables) (sorted_by-permutation key_before (keyed_tables 0 tables)))
+        ∙ length-keyed_tables 0 tables
 
 -- without rows there are no members
 pub members_of-none : members_of ([] ∷ [] ∷ [] ∷ [] ∷ []) ≡ []
@@ -184,11 +191,14 @@ apart_rest : (c id : ℕ) (members : Members) → From (suc c) members → Apart
 apart_rest c id [] h = tt
 apart_rest c id (e ∷ es) h = let above : suc c < suc e.0.0 = h.0 in (at_other c id e.0.0 e.0.1 (λ same. omega (arith, above)), apart_rest c id es h.1)
 
-apart_rows : (c id : ℕ) (rows : List Entry) (rest : Members) → ((k : ℕ) (d : Entry) → k < length rows → id ≢ (get_or rows k d).0) → From (suc c) rest → Apart (c, id) (keyed_entries c rows ++ rest)
+apart_rows : (c id : ℕ) (rows : List Entry) (rest : Members) → ((k : ℕ) (d : Entry) → k < length rows → id ≢ (get_or rows k d).0) → From (suc c) rest
+    → Apart (c, id) (keyed_entries c rows ++ rest)
 apart_rows c id [] rest h from = apart_rest c id rest from
-apart_rows c id (row ∷ rows) rest h from = (at_is c id c row.0 ∙ ids_differ c id row.0 (h 0 row (omega arith)), apart_rows c id rows rest (λ k d below. h (suc k) d (omega (arith, below))) from)
+apart_rows c id (row ∷ rows) rest h from =
+    (at_is c id c row.0 ∙ ids_differ c id row.0 (h 0 row (omega arith)), apart_rows c id rows rest (λ k d below. h (suc k) d (omega (arith, below))) from)
 
-distinct_rows : (c : ℕ) (rows : List Entry) (rest : Members) → HasDistinctEntryIds rows → From (suc c) rest → IsDistinct (eq_by_cmp key_cmp) (keys_of rest) → IsDistinct (eq_by_cmp key_cmp) (keys_of (keyed_entries c rows ++ rest))
+distinct_rows : (c : ℕ) (rows : List Entry) (rest : Members) → HasDistinctEntryIds rows → From (suc c) rest → IsDistinct (eq_by_cmp key_cmp) (keys_of rest)
+    → IsDistinct (eq_by_cmp key_cmp) (keys_of (keyed_entries c rows ++ rest))
 distinct_rows c [] rest ids from distinct = distinct
 distinct_rows c (row ∷ rows) rest ids from distinct =
     IsDistinct-cons (eq_by_cmp key_cmp) (c, row.0) (keys_of (keyed_entries c rows ++ rest))
@@ -207,7 +217,8 @@ from_tables : (c : ℕ) (tables : List (List Entry)) → From c (keyed_tables c 
 from_tables c [] = tt
 from_tables c (rows ∷ tables) = from_rows c rows (keyed_tables (suc c) tables) (from_weaker c (keyed_tables (suc c) tables) (from_tables (suc c) tables))
 
-distinct_from : (c : ℕ) (tables : List (List Entry)) → AllByRecursion HasDistinctEntryIds tables → IsDistinct (eq_by_cmp key_cmp) (keys_of (keyed_tables c tables))
+distinct_from : (c : ℕ) (tables : List (List Entry)) → AllByRecursion HasDistinctEntryIds tables
+    → IsDistinct (eq_by_cmp key_cmp) (keys_of (keyed_tables c tables))
 unfolding IsDistinct
 distinct_from c [] ids = tt
 distinct_from c (rows ∷ tables) ids = distinct_rows c rows (keyed_tables (suc c) tables) ids.0 (from_tables (suc c) tables) (distinct_from (suc c) tables ids.1)
@@ -227,11 +238,14 @@ longer_from : (c d k : ℕ) (tables : List (List Entry)) (row : Entry) (old new 
 longer_from c d k [] row old new e below h = absurd (omega arith)
 longer_from c d zero (rows ∷ tables) row old new e below h =
     let same : d ≡ c = omega arith in
-    let moved = IsPermutation-append_left (keyed_tables (suc d) tables) (keyed_entries d old) (keyed_entries d (row ∷ new)) (IsPermutation-map (entry d) old (row ∷ new) h) in
-    subst (λ n. IsPermutation (keyed_entries d old ++ keyed_tables (suc d) tables) (entry n row ∷ (keyed_entries d new ++ keyed_tables (suc d) tables))) same moved
+    let moved = IsPermutation-append_left (keyed_tables (suc d) tables) (keyed_entries d old) (keyed_entries d (row ∷ new))
+        (IsPermutation-map (entry d) old (row ∷ new) h) in
+    subst (λ n. IsPermutation (keyed_entries d old ++ keyed_tables (suc d) tables) (entry n row ∷ (keyed_entries d new ++ keyed_tables (suc d) tables)))
+        same moved
 longer_from c d (suc k) (rows ∷ tables) row old new e below h =
     IsPermutation-trans _ _ _
-    (IsPermutation-append_right (keyed_entries d rows) (keyed_tables (suc d) (with_table tables k old)) (entry c row ∷ keyed_tables (suc d) (with_table tables k new))
+    (IsPermutation-append_right (keyed_entries d rows) (keyed_tables (suc d) (with_table tables k old))
+        (entry c row ∷ keyed_tables (suc d) (with_table tables k new))
     (longer_from c (suc d) k tables row old new (omega arith) (omega arith) h))
     (IsPermutation-middle (keyed_entries d rows) (entry c row) (keyed_tables (suc d) (with_table tables k new)))
 
@@ -246,21 +260,25 @@ with_table-itself (rows ∷ tables) zero = refl
 with_table-itself (rows ∷ tables) (suc c) = ap (λ more. rows ∷ more) (with_table-itself tables c)
 
 -- a table with one row more under another id is the members with one object more
-pub members_of-more : (tables : List (List Entry)) (c id : ℕ) (object : List ℕ) (rows : List Entry) → AllByRecursion HasDistinctEntryIds tables → c < length tables → object_with_id (table_at tables c) id ≡ None → IsPermutation rows ((id, object) ∷ table_at tables c)
+pub members_of-more : (tables : List (List Entry)) (c id : ℕ) (object : List ℕ) (rows : List Entry) → AllByRecursion HasDistinctEntryIds tables
+    → c < length tables → object_with_id (table_at tables c) id ≡ None → IsPermutation rows ((id, object) ∷ table_at tables c)
     → members_of (with_table tables c rows) ≡ with_object (members_of tables) c id object
 unfolding members_of
 members_of-more tables c id object rows ids below none h =
     let all : Members = keyed_tables 0 tables in
     let absent : lookup (at c id) all ≡ None = found_in c id tables ∙ none in
     let grown : IsPermutation (keyed_tables 0 (with_table tables c rows)) (((c, id), object) ∷ all) =
-    subst (λ ts. IsPermutation (keyed_tables 0 (with_table tables c rows)) (((c, id), object) ∷ keyed_tables 0 ts)) (with_table-itself tables c) (longer c tables (id, object) rows (table_at tables c) below h) in
+    subst (λ ts. IsPermutation (keyed_tables 0 (with_table tables c rows)) (((c, id), object) ∷ keyed_tables 0 ts)) (with_table-itself tables c)
+        (longer c tables (id, object) rows (table_at tables c) below h) in
     let distinct : IsDistinct (eq_by_cmp key_cmp) (keys_of (((c, id), object) ∷ all)) =
     IsDistinct-cons (eq_by_cmp key_cmp) (c, id) (keys_of all) (absent-lookup (at c id) all absent) (distinct_from 0 tables ids) in
-    sym (sorted_by-same_keys key_order exact_keys (((c, id), object) ∷ all) (keyed_tables 0 (with_table tables c rows)) (IsPermutation-sym (keyed_tables 0 (with_table tables c rows)) (((c, id), object) ∷ all) grown) distinct)
+    sym (sorted_by-same_keys key_order exact_keys (((c, id), object) ∷ all) (keyed_tables 0 (with_table tables c rows))
+        (IsPermutation-sym (keyed_tables 0 (with_table tables c rows)) (((c, id), object) ∷ all) grown) distinct)
     ∙ sorted_by-inserted key_order (c, id) object all absent
 
 -- the same if the row is last
-pub members_of-added : (tables : List (List Entry)) (c id : ℕ) (object : List ℕ) → AllByRecursion HasDistinctEntryIds tables → c < length tables → object_with_id (table_at tables c) id ≡ None
+pub members_of-added : (tables : List (List Entry)) (c id : ℕ) (object : List ℕ) → AllByRecursion HasDistinctEntryIds tables → c < length tables
+    → object_with_id (table_at tables c) id ≡ None
     → members_of (with_table tables c (table_at tables c ++ (id, object) ∷ [])) ≡ with_object (members_of tables) c id object
 members_of-added tables c id object ids below none =
     members_of-more tables c id object (table_at tables c ++ (id, object) ∷ []) ids below none (IsPermutation-to_front (table_at tables c) (id, object))
@@ -281,13 +299,15 @@ kept (row ∷ rows) id n e apart =
     ∙ ap (λ more. row ∷ more) (kept rows id n e (λ k d below. apart (suc k) d (omega (arith, below))))
 
 -- if the id isn't found, all rows are kept
-absent_if : (b : Bool) (row : Entry) (rows others : List Entry) (rest : Option (List ℕ)) → cond b (Some row.1) rest ≡ None → (rest ≡ None → others ≡ rows) → cond (not b) (row ∷ others) others ≡ row ∷ rows
+absent_if : (b : Bool) (row : Entry) (rows others : List Entry) (rest : Option (List ℕ)) → cond b (Some row.1) rest ≡ None → (rest ≡ None → others ≡ rows)
+    → cond (not b) (row ∷ others) others ≡ row ∷ rows
 absent_if true row rows others rest none more = cc
 absent_if false row rows others rest none more = ap (λ l. row ∷ l) (more none)
 
 entries_without-absent : (rows : List Entry) (id : ℕ) → object_with_id rows id ≡ None → entries_without rows id ≡ rows
 entries_without-absent [] id none = refl
-entries_without-absent (row ∷ rows) id none = absent_if (row.0 == id) row rows (entries_without rows id) (object_with_id rows id) none (entries_without-absent rows id)
+entries_without-absent (row ∷ rows) id none =
+    absent_if (row.0 == id) row rows (entries_without rows id) (object_with_id rows id) none (entries_without-absent rows id)
 
 the_id : (a id : ℕ) → (a == id) ≡ true → a ≡ id
 the_id a id h = grind (arith, nat_tests)
@@ -296,17 +316,20 @@ row_is : (row : Entry) (id : ℕ) (object : List ℕ) → row.0 ≡ id → row.1
 row_is row id object e f = λ i. (sym e i, sym f i)
 
 -- if it is found, its row is the only one that isn't kept
-split_if : (b : Bool) (row : Entry) (rows others : List Entry) (id : ℕ) (object : List ℕ) (rest : Option (List ℕ)) → (row.0 == id) ≡ b → cond b (Some row.1) rest ≡ Some object
+split_if : (b : Bool) (row : Entry) (rows others : List Entry) (id : ℕ) (object : List ℕ) (rest : Option (List ℕ)) → (row.0 == id) ≡ b
+    → cond b (Some row.1) rest ≡ Some object
     → ((row.0 == id) ≡ true → others ≡ rows) → (rest ≡ Some object → IsPermutation rows ((id, object) ∷ others))
     → IsPermutation (row ∷ rows) ((id, object) ∷ cond (not b) (row ∷ others) others)
 split_if true row rows others id object rest is here whole more =
     let object_is : row.1 ≡ object = cc in
-    let one : (row ∷ rows) ≡ ((id, object) ∷ others) = ap (λ r. r ∷ rows) (sym (row_is row id object (the_id row.0 id is) object_is)) ∙ ap (λ l. (id, object) ∷ l) (sym (whole is)) in
+    let one : (row ∷ rows) ≡ ((id, object) ∷ others) = ap (λ r. r ∷ rows) (sym (row_is row id object (the_id row.0 id is) object_is))
+        ∙ ap (λ l. (id, object) ∷ l) (sym (whole is)) in
     subst (IsPermutation (row ∷ rows)) one (IsPermutation-refl (row ∷ rows))
 split_if false row rows others id object rest is here whole more =
     IsPermutation-trans _ _ _ (IsPermutation-cons row rows ((id, object) ∷ others) (more here)) (IsPermutation-middle (row ∷ []) (id, object) others)
 
-entries_without-split : (rows : List Entry) (id : ℕ) (object : List ℕ) → HasDistinctEntryIds rows → object_with_id rows id ≡ Some object → IsPermutation rows ((id, object) ∷ entries_without rows id)
+entries_without-split : (rows : List Entry) (id : ℕ) (object : List ℕ) → HasDistinctEntryIds rows → object_with_id rows id ≡ Some object
+    → IsPermutation rows ((id, object) ∷ entries_without rows id)
 entries_without-split [] id object ids here = cc
 entries_without-split (row ∷ rows) id object ids here =
     split_if (row.0 == id) row rows (entries_without rows id) id object (object_with_id rows id) refl here
@@ -314,26 +337,35 @@ entries_without-split (row ∷ rows) id object ids here =
     (entries_without-split rows id object (λ i j d less below. ids (suc i) (suc j) d (omega (arith, less)) (omega (arith, below))))
 
 -- tables of which one has its rows in another order
-moved_from : (d k : ℕ) (tables : List (List Entry)) (rows : List Entry) → IsPermutation (table_at tables k) rows → IsPermutation (keyed_tables d tables) (keyed_tables d (with_table tables k rows))
+moved_from : (d k : ℕ) (tables : List (List Entry)) (rows : List Entry) → IsPermutation (table_at tables k) rows
+    → IsPermutation (keyed_tables d tables) (keyed_tables d (with_table tables k rows))
 moved_from d k [] rows h = IsPermutation-refl []
-moved_from d zero (first ∷ tables) rows h = IsPermutation-append_left (keyed_tables (suc d) tables) (keyed_entries d first) (keyed_entries d rows) (IsPermutation-map (entry d) first rows h)
+moved_from d zero (first ∷ tables) rows h =
+    IsPermutation-append_left (keyed_tables (suc d) tables) (keyed_entries d first) (keyed_entries d rows) (IsPermutation-map (entry d) first rows h)
 moved_from d (suc k) (first ∷ tables) rows h =
-    IsPermutation-append_right (keyed_entries d first) (keyed_tables (suc d) tables) (keyed_tables (suc d) (with_table tables k rows)) (moved_from (suc d) k tables rows h)
+    IsPermutation-append_right (keyed_entries d first) (keyed_tables (suc d) tables) (keyed_tables (suc d) (with_table tables k rows))
+        (moved_from (suc d) k tables rows h)
 
-removed_by : (tables : List (List Entry)) (c id : ℕ) (rows : List Entry) (found : Option (List ℕ)) → AllByRecursion HasDistinctEntryIds tables → c < length tables → HasDistinctEntryIds (table_at tables c) → object_with_id (table_at tables c) id ≡ found
-    → IsPermutation (entries_without (table_at tables c) id) rows → sorted_by key_before (keyed_tables 0 (with_table tables c rows)) ≡ without_object (sorted_by key_before (keyed_tables 0 tables)) c id
+removed_by : (tables : List (List Entry)) (c id : ℕ) (rows : List Entry) (found : Option (List ℕ)) → AllByRecursion HasDistinctEntryIds tables
+    → c < length tables → HasDistinctEntryIds (table_at tables c) → object_with_id (table_at tables c) id ≡ found
+    → IsPermutation (entries_without (table_at tables c) id) rows
+        → sorted_by key_before (keyed_tables 0 (with_table tables c rows)) ≡ without_object (sorted_by key_before (keyed_tables 0 tables)) c id
 removed_by tables c id rows None all below ids is h =
     let none : lookup (at c id) (keyed_tables 0 tables) ≡ None = found_in c id tables ∙ is in
     let moved : IsPermutation (table_at tables c) rows = subst (λ l. IsPermutation l rows) (entries_without-absent (table_at tables c) id is) h in
-    sym (sorted_by-same_keys key_order exact_keys (keyed_tables 0 tables) (keyed_tables 0 (with_table tables c rows)) (moved_from 0 c tables rows moved) (distinct_from 0 tables all))
+    sym (sorted_by-same_keys key_order exact_keys (keyed_tables 0 tables) (keyed_tables 0 (with_table tables c rows)) (moved_from 0 c tables rows moved)
+        (distinct_from 0 tables all))
     ∙ sym (remove_entry-absent (at c id) (sorted_by key_before (keyed_tables 0 tables)) (lookup-sorted_by key_order (c, id) (keyed_tables 0 tables) ∙ none))
 removed_by tables c id rows (Some object) all below ids is h =
     let split : IsPermutation (table_at tables c) ((id, object) ∷ rows) =
-    IsPermutation-trans (table_at tables c) ((id, object) ∷ entries_without (table_at tables c) id) ((id, object) ∷ rows) (entries_without-split (table_at tables c) id object ids is) (IsPermutation-cons (id, object) (entries_without (table_at tables c) id) rows h) in
+    IsPermutation-trans (table_at tables c) ((id, object) ∷ entries_without (table_at tables c) id) ((id, object) ∷ rows)
+        (entries_without-split (table_at tables c) id object ids is) (IsPermutation-cons (id, object) (entries_without (table_at tables c) id) rows h) in
     let rest : Members = keyed_tables 0 (with_table tables c rows) in
     let moved : IsPermutation (keyed_tables 0 tables) (((c, id), object) ∷ rest) =
-    subst (λ ts. IsPermutation (keyed_tables 0 ts) (((c, id), object) ∷ rest)) (with_table-itself tables c) (longer c tables (id, object) (table_at tables c) rows below split) in
-    let distinct : IsDistinct (eq_by_cmp key_cmp) (keys_of (((c, id), object) ∷ rest)) = distinct-moved key_order (keyed_tables 0 tables) (((c, id), object) ∷ rest) moved (distinct_from 0 tables all) in
+    subst (λ ts. IsPermutation (keyed_tables 0 ts) (((c, id), object) ∷ rest)) (with_table-itself tables c)
+        (longer c tables (id, object) (table_at tables c) rows below split) in
+    let distinct : IsDistinct (eq_by_cmp key_cmp) (keys_of (((c, id), object) ∷ rest)) =
+        distinct-moved key_order (keyed_tables 0 tables) (((c, id), object) ∷ rest) moved (distinct_from 0 tables all) in
     let none : lookup (at c id) rest ≡ None = lookup-absent (at c id) rest (IsDistinct-head (eq_by_cmp key_cmp) (c, id) (keys_of rest) distinct) in
     let same = sorted_by-same_keys key_order exact_keys (keyed_tables 0 tables) (((c, id), object) ∷ rest) moved (distinct_from 0 tables all) in
     sym (sorted_by-removed key_order (c, id) object rest none) ∙ ap (λ es. without_object es c id) (sym same)
@@ -344,7 +376,9 @@ ids_at (rows ∷ tables) zero ids below = ids.0
 ids_at (rows ∷ tables) (suc c) ids below = ids_at tables c ids.1 (omega (arith, below))
 
 -- a table without an id, in whatever order, is the members without the object under the key, if there was one
-pub members_of-removed : (tables : List (List Entry)) (c id : ℕ) (rows : List Entry) → AllByRecursion HasDistinctEntryIds tables → c < length tables → IsPermutation (entries_without (table_at tables c) id) rows
+pub members_of-removed : (tables : List (List Entry)) (c id : ℕ) (rows : List Entry) → AllByRecursion HasDistinctEntryIds tables → c < length tables
+    → IsPermutation (entries_without (table_at tables c) id) rows
     → members_of (with_table tables c rows) ≡ without_object (members_of tables) c id
 unfolding members_of
-members_of-removed tables c id rows ids below h = removed_by tables c id rows (object_with_id (table_at tables c) id) ids below (ids_at tables c ids below) refl h
+members_of-removed tables c id rows ids below h =
+    removed_by tables c id rows (object_with_id (table_at tables c) id) ids below (ids_at tables c ids below) refl h

@@ -34,7 +34,8 @@ module _ {X : Type 0} where
   not_later false x rest h = h
 
   -- two tests of which one passes at most may change places
-  either_first : (b c : Bool) (u v : X) (rest : Option X) → (b ≡ true → c ≡ true → ⊥) → cond b (Some u) (cond c (Some v) rest) ≡ cond c (Some v) (cond b (Some u) rest)
+  either_first : (b c : Bool) (u v : X) (rest : Option X) → (b ≡ true → c ≡ true → ⊥)
+      → cond b (Some u) (cond c (Some v) rest) ≡ cond c (Some v) (cond b (Some u) rest)
   either_first true true u v rest h = absurd (h refl refl)
   either_first true false u v rest h = refl
   either_first false c u v rest h = refl
@@ -119,9 +120,11 @@ module _ {K X : Type 0} {R : K → K → Ordering} (o : IsTotalOrder R) where
   -- ---- what is found
 
   module _ (q : K) where
-    looked_if : (b : Bool) (x e : K × X) (es more : List (K × X)) → before e x ≡ b → lookup (is_at (R q)) more ≡ lookup (is_at (R q)) (x ∷ es) → lookup (is_at (R q)) (if b then e ∷ more else x ∷ e ∷ es) ≡ lookup (is_at (R q)) (x ∷ e ∷ es)
+    looked_if : (b : Bool) (x e : K × X) (es more : List (K × X)) → before e x ≡ b → lookup (is_at (R q)) more ≡ lookup (is_at (R q)) (x ∷ es)
+        → lookup (is_at (R q)) (if b then e ∷ more else x ∷ e ∷ es) ≡ lookup (is_at (R q)) (x ∷ e ∷ es)
     looked_if true x e es more is h =
-        ap (λ rest. cond (is_eq (R q e.0)) (Some e.1) rest) h ∙ either_first (is_eq (R q e.0)) (is_eq (R q x.0)) e.1 x.1 (lookup (is_at (R q)) es) (not_both o q e.0 x.0 is)
+        ap (λ rest. cond (is_eq (R q e.0)) (Some e.1) rest) h
+            ∙ either_first (is_eq (R q e.0)) (is_eq (R q x.0)) e.1 x.1 (lookup (is_at (R q)) es) (not_both o q e.0 x.0 is)
     looked_if false x e es more is h = refl
 
     lookup-with_inserted : (x : K × X) (es : List (K × X)) → lookup (is_at (R q)) (with_inserted before x es) ≡ lookup (is_at (R q)) (x ∷ es)
@@ -138,25 +141,29 @@ module _ {K X : Type 0} {R : K → K → Ordering} (o : IsTotalOrder R) where
 
   -- distinct keys stay distinct
   pub distinct-moved : (xs ys : List (K × X)) → IsPermutation xs ys → IsDistinct (eq_by_cmp R) (keys_of xs) → IsDistinct (eq_by_cmp R) (keys_of ys)
-  distinct-moved xs ys h d = IsDistinct-IsPermutation (eq_by_cmp R) (eq_by_cmp_equiv o).symm (keys_of xs) (keys_of ys) (IsPermutation-map (λ (e : K × X). e.0) xs ys h) d
+  distinct-moved xs ys h d = IsDistinct-IsPermutation (eq_by_cmp R) (eq_by_cmp_equiv o).symm (keys_of xs) (keys_of ys)
+      (IsPermutation-map (λ (e : K × X). e.0) xs ys h) d
 
   -- keys that the order tells apart are distinct
   other_keys : (xs : List (K × X)) → IsDistinct (eq_by_cmp R) (keys_of xs) → HasDistinctKeys (λ (e : K × X). e.0) xs
   other_keys xs apart = λ i j d less inside same.
       let long : length (keys_of xs) ≡ length xs = length-map xs (λ (e : K × X). e.0) in
-      let differ : eq_by_cmp R (get_or (keys_of xs) i d.0) (get_or (keys_of xs) j d.0) ≡ false = apart_from_distinct (eq_by_cmp R) (keys_of xs) i j d.0 apart less (omega (arith, inside, long)) in
+      let differ : eq_by_cmp R (get_or (keys_of xs) i d.0) (get_or (keys_of xs) j d.0) ≡ false =
+          apart_from_distinct (eq_by_cmp R) (keys_of xs) i j d.0 apart less (omega (arith, inside, long)) in
       let left : get_or (keys_of xs) i d.0 ≡ (get_or xs i d).0 = get_or-map (λ (e : K × X). e.0) xs i d d.0 (omega (arith, less, inside)) in
       let right : get_or (keys_of xs) j d.0 ≡ (get_or xs j d).0 = get_or-map (λ (e : K × X). e.0) xs j d d.0 inside in
       let one : get_or (keys_of xs) j d.0 ≡ get_or (keys_of xs) i d.0 = right ∙ sym same ∙ sym left in
       true≢false (sym (itself o (get_or (keys_of xs) i d.0)) ∙ ap (λ k. eq_by_cmp R (get_or (keys_of xs) i d.0) k) (sym one) ∙ differ)
 
   -- the order in which they come doesn't change the sorted list
-  pub sorted_by-same_keys : CmpEqualImpliesEq R → (xs ys : List (K × X)) → IsPermutation xs ys → IsDistinct (eq_by_cmp R) (keys_of xs) → sorted_by before xs ≡ sorted_by before ys
+  pub sorted_by-same_keys : CmpEqualImpliesEq R → (xs ys : List (K × X)) → IsPermutation xs ys → IsDistinct (eq_by_cmp R) (keys_of xs)
+      → sorted_by before xs ≡ sorted_by before ys
   sorted_by-same_keys exact xs ys h d = arranged_by-same (λ x y. is_lt (R x y)) (order_of o exact) (λ (e : K × X). e.0) xs ys h (other_keys xs d)
 
   -- ---- one entry more
 
-  inserted_by : (r : Ordering) (k : K) (v : X) (e : K × X) (es front more : List (K × X)) → cond (is_eq r) (Some e.1) (lookup (is_at (R k)) es) ≡ None → (lookup (is_at (R k)) es ≡ None → front ≡ more)
+  inserted_by : (r : Ordering) (k : K) (v : X) (e : K × X) (es front more : List (K × X)) → cond (is_eq r) (Some e.1) (lookup (is_at (R k)) es) ≡ None
+      → (lookup (is_at (R k)) es ≡ None → front ≡ more)
       → (if is_lt (ordering_reverse r) then e ∷ front else (k, v) ∷ e ∷ es) ≡ match_ordering r ((k, v) ∷ e ∷ es) ((e.0, v) ∷ es) (e ∷ more)
   inserted_by Less k v e es front more h rest = refl
   inserted_by Equal k v e es front more h rest = absurd (found e.1 h)
@@ -169,38 +176,45 @@ module _ {K X : Type 0} {R : K → K → Ordering} (o : IsTotalOrder R) where
       ∙ inserted_by (R k e.0) k v e es (with_inserted before (k, v) es) (insert_entry R es k v) h (with_inserted-absent k v es)
 
   -- an entry of another key than the others is inserted
-  pub sorted_by-inserted : (k : K) (v : X) (es : List (K × X)) → lookup (is_at (R k)) es ≡ None → sorted_by before ((k, v) ∷ es) ≡ insert_entry R (sorted_by before es) k v
+  pub sorted_by-inserted : (k : K) (v : X) (es : List (K × X)) → lookup (is_at (R k)) es ≡ None
+      → sorted_by before ((k, v) ∷ es) ≡ insert_entry R (sorted_by before es) k v
   unfolding sorted_by
   sorted_by-inserted k v es h = with_inserted-absent k v (sorted_by before es) (lookup-sorted_by k es ∙ h)
 
   -- ---- one entry less
 
   module _ (test : K → Bool) where
-    removed_if : (b : Bool) (x e : K × X) (es more : List (K × X)) → test x.0 ≡ true → test e.0 ≡ false → remove_entry test more ≡ es → remove_entry test (if b then e ∷ more else x ∷ e ∷ es) ≡ e ∷ es
+    removed_if : (b : Bool) (x e : K × X) (es more : List (K × X)) → test x.0 ≡ true → test e.0 ≡ false → remove_entry test more ≡ es
+        → remove_entry test (if b then e ∷ more else x ∷ e ∷ es) ≡ e ∷ es
     removed_if true x e es more here other h = ap (λ b. cond b more (e ∷ remove_entry test more)) other ∙ ap (λ l. e ∷ l) h
     removed_if false x e es more here other h = ap (λ b. cond b (e ∷ es) (x ∷ remove_entry test (e ∷ es))) here
 
     with_inserted-removed : (x : K × X) (es : List (K × X)) → test x.0 ≡ true → lookup test es ≡ None → remove_entry test (with_inserted before x es) ≡ es
     with_inserted-removed x [] here h = ap (λ b. cond b [] (x ∷ [])) here
     with_inserted-removed x (e ∷ es) here h =
-        removed_if (before e x) x e es (with_inserted before x es) here (not_first (test e.0) e.1 (lookup test es) h) (with_inserted-removed x es here (not_later (test e.0) e.1 (lookup test es) h))
+        removed_if (before e x) x e es (with_inserted before x es) here (not_first (test e.0) e.1 (lookup test es) h)
+            (with_inserted-removed x es here (not_later (test e.0) e.1 (lookup test es) h))
 
   -- an entry of another key than the others is taken out
-  pub sorted_by-removed : (k : K) (v : X) (es : List (K × X)) → lookup (is_at (R k)) es ≡ None → remove_entry (is_at (R k)) (sorted_by before ((k, v) ∷ es)) ≡ sorted_by before es
+  pub sorted_by-removed : (k : K) (v : X) (es : List (K × X)) → lookup (is_at (R k)) es ≡ None
+      → remove_entry (is_at (R k)) (sorted_by before ((k, v) ∷ es)) ≡ sorted_by before es
   unfolding sorted_by
   sorted_by-removed k v es h = with_inserted-removed (is_at (R k)) (k, v) (sorted_by before es) (itself o k) (lookup-sorted_by k es ∙ h)
 
   -- ---- the sorted keys rise
 
-  all_if : (P : K → Type 0) (b : Bool) (x e : K × X) (es more : List (K × X)) → P x.0 → P e.0 → AllByRecursion P (keys_of es) → AllByRecursion P (keys_of more) → AllByRecursion P (keys_of (if b then e ∷ more else x ∷ e ∷ es))
+  all_if : (P : K → Type 0) (b : Bool) (x e : K × X) (es more : List (K × X)) → P x.0 → P e.0 → AllByRecursion P (keys_of es) → AllByRecursion P (keys_of more)
+      → AllByRecursion P (keys_of (if b then e ∷ more else x ∷ e ∷ es))
   all_if P true x e es more p q all others = (q, others)
   all_if P false x e es more p q all others = (p, (q, all))
 
-  all-with_inserted : (P : K → Type 0) (x : K × X) (es : List (K × X)) → P x.0 → AllByRecursion P (keys_of es) → AllByRecursion P (keys_of (with_inserted before x es))
+  all-with_inserted : (P : K → Type 0) (x : K × X) (es : List (K × X)) → P x.0 → AllByRecursion P (keys_of es)
+      → AllByRecursion P (keys_of (with_inserted before x es))
   all-with_inserted P x [] p all = (p, tt)
   all-with_inserted P x (e ∷ es) p all = all_if P (before e x) x e es (with_inserted before x es) p all.0 all.1 (all-with_inserted P x es p all.1)
 
-  rising_if : (b : Bool) (x e : K × X) (es : List (K × X)) → before e x ≡ b → is_eq (R x.0 e.0) ≡ false → IsStrictlySortedBy R (keys_of (e ∷ es)) → IsStrictlySortedBy R (keys_of (with_inserted before x es))
+  rising_if : (b : Bool) (x e : K × X) (es : List (K × X)) → before e x ≡ b → is_eq (R x.0 e.0) ≡ false → IsStrictlySortedBy R (keys_of (e ∷ es))
+      → IsStrictlySortedBy R (keys_of (with_inserted before x es))
       → IsStrictlySortedBy R (keys_of (if b then e ∷ with_inserted before x es else x ∷ e ∷ es))
   unfolding IsStrictlySortedBy
   rising_if true x e es is other up more = (all-with_inserted (λ z. R e.0 z ≡ Less) x es (less (R e.0 x.0) is) up.0, more)
@@ -208,7 +222,8 @@ module _ {K X : Type 0} {R : K → K → Ordering} (o : IsTotalOrder R) where
       let first : R x.0 e.0 ≡ Less = less_by o x.0 e.0 (R x.0 e.0) refl other is in
       ((first, below_all o x.0 e.0 (keys_of es) first up.0), up)
 
-  rising-with_inserted : (x : K × X) (es : List (K × X)) → AllByRecursion (λ k. is_eq (R x.0 k) ≡ false) (keys_of es) → IsStrictlySortedBy R (keys_of es) → IsStrictlySortedBy R (keys_of (with_inserted before x es))
+  rising-with_inserted : (x : K × X) (es : List (K × X)) → AllByRecursion (λ k. is_eq (R x.0 k) ≡ false) (keys_of es) → IsStrictlySortedBy R (keys_of es)
+      → IsStrictlySortedBy R (keys_of (with_inserted before x es))
   unfolding IsStrictlySortedBy
   rising-with_inserted x [] other up = (tt, tt)
   rising-with_inserted x (e ∷ es) other up = rising_if (before e x) x e es refl other.0 up (rising-with_inserted x es other.1 up.1)
@@ -220,4 +235,5 @@ module _ {K X : Type 0} {R : K → K → Ordering} (o : IsTotalOrder R) where
   rising-sorted_by (e ∷ es) d =
       let apart : AllByRecursion (λ k. is_eq (R e.0 k) ≡ false) (keys_of es) = IsDistinct-head (eq_by_cmp R) e.0 (keys_of es) d in
       let none : lookup (is_at (R e.0)) (sorted_by before es) ≡ None = lookup-sorted_by e.0 es ∙ lookup-absent (is_at (R e.0)) es apart in
-      rising-with_inserted e (sorted_by before es) (absent-lookup (is_at (R e.0)) (sorted_by before es) none) (rising-sorted_by es (IsDistinct-tail (eq_by_cmp R) e.0 (keys_of es) d))
+      rising-with_inserted e (sorted_by before es) (absent-lookup (is_at (R e.0)) (sorted_by before es) none)
+          (rising-sorted_by es (IsDistinct-tail (eq_by_cmp R) e.0 (keys_of es) d))

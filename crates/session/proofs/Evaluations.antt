@@ -36,7 +36,8 @@ length-product (a ∷ left) right few =
     let rest = length-product left right few in
     let both = length-append (map pair right) (product left right) in omega (arith, here, rest, both, few)
 
-length-considered_pairs : (same : Bool) (left right : List Entry) → length left ≤ 65536 → length right ≤ 65536 → length (considered_pairs same left right) ≤ 2 ^ 32
+length-considered_pairs : (same : Bool) (left right : List Entry) → length left ≤ 65536 → length right ≤ 65536
+    → length (considered_pairs same left right) ≤ 2 ^ 32
 length-considered_pairs false left right few few' = let all = length-product left right few' in omega (arith, all, few)
 length-considered_pairs true left right few few' =
     let all = length-product left right few' in
@@ -89,7 +90,8 @@ module _ (t : State) (pivots : length t.pivots ≤ 8) (members : length t.member
   rows-few c = let few = length-entries_in t.members c in omega (arith, few, members)
 
   join-by : (b : Bool) (c d radius : ℕ)
-      → evals_of (if b then join_reply (join_answer (dist t.space) t.pivots (considered_pairs (c == d) (entries_in t.members c) (entries_in t.members d)) radius) else Curve) ≤ 2 ^ 32
+      → evals_of (if b then join_reply (join_answer (dist t.space) t.pivots (considered_pairs (c == d) (entries_in t.members c) (entries_in t.members d))
+          radius) else Curve) ≤ 2 ^ 32
   join-by false c d radius = omega arith
   join-by true c d radius =
       let pairs = considered_pairs (c == d) (entries_in t.members c) (entries_in t.members d) in

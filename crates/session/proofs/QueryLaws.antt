@@ -35,7 +35,8 @@ module _ (admitted : List ℕ → Type 0) (distance : List ℕ → List ℕ → 
 -- ---- answers
 
 module _ (admitted : List ℕ → Type 0) (distance : List ℕ → List ℕ → ℕ) (s : State) (is : IsMetricOf admitted distance s.space) (pivots : List (List ℕ)) where
-  pub range_said : (c radius : ℕ) (query : List ℕ) (rows : List Row) (answer : RangeAnswer) → HoldsRows s c pivots rows → answer ≡ range_answer distance pivots (entries_of rows) query radius
+  pub range_said : (c radius : ℕ) (query : List ℕ) (rows : List Row) (answer : RangeAnswer) → HoldsRows s c pivots rows
+      → answer ≡ range_answer distance pivots (entries_of rows) query radius
       → range_reply answer ≡ reply_of s (command.Range c radius query)
   unfolding reply_of
   range_said c radius query rows answer holds found =
@@ -45,7 +46,8 @@ module _ (admitted : List ℕ → Type 0) (distance : List ℕ → List ℕ → 
       ∙ ap (λ (ps : List (List ℕ)). range_answer (dist s.space) ps (entries_of rows) query radius) (sym holds.pivots)
       ∙ sym (range_answer-moved (dist s.space) s.pivots (entries_in s.members c) (entries_of rows) holds.rows query radius))
 
-  pub near_said : (c k : ℕ) (query : List ℕ) (rows : List Row) (answer : NearAnswer) → HoldsRows s c pivots rows → answer ≡ near_answer distance pivots (entries_of rows) query k
+  pub near_said : (c k : ℕ) (query : List ℕ) (rows : List Row) (answer : NearAnswer) → HoldsRows s c pivots rows
+      → answer ≡ near_answer distance pivots (entries_of rows) query k
       → near_reply answer ≡ reply_of s (command.Near c k query)
   unfolding reply_of
   near_said c k query rows answer holds found =
@@ -55,14 +57,16 @@ module _ (admitted : List ℕ → Type 0) (distance : List ℕ → List ℕ → 
       ∙ ap (λ (ps : List (List ℕ)). near_answer (dist s.space) ps (entries_of rows) query k) (sym holds.pivots)
       ∙ sym (near_answer-moved (dist s.space) s.pivots (entries_in s.members c) (entries_of rows) holds.rows query k))
 
-  pub join_said : (c d radius : ℕ) (left right : List Row) (answer : JoinAnswer) → allows_joins s.curve ≡ true → HoldsRows s c pivots left → HoldsRows s d pivots right
+  pub join_said : (c d radius : ℕ) (left right : List Row) (answer : JoinAnswer) → allows_joins s.curve ≡ true → HoldsRows s c pivots left
+      → HoldsRows s d pivots right
       → answer ≡ join_answer distance pivots (considered_pairs (c == d) (entries_of left) (entries_of right)) radius
       → join_reply answer ≡ reply_of s (command.Join c d radius)
   unfolding reply_of
   join_said c d radius left right answer joined lefts rights found =
       let own = considered_pairs (c == d) (entries_of left) (entries_of right) in
       let all = considered_pairs (c == d) (entries_in s.members c) (entries_in s.members d) in
-      let moved = considered_pairs-moved (c == d) (entries_in s.members c) (entries_of left) (entries_in s.members d) (entries_of right) lefts.rows rights.rows in
+      let moved = considered_pairs-moved (c == d) (entries_in s.members c) (entries_of left) (entries_in s.members d) (entries_of right)
+          lefts.rows rights.rows in
       ap join_reply
       (found
       ∙ ap (λ (f : List ℕ → List ℕ → ℕ). join_answer f pivots own radius) is.distance_is

@@ -60,7 +60,8 @@ module _ (store : Store) (sound : IsStore store) where
     held = sound.rows c [] below
 
     -- what a query is asked over: a table, and the pivots
-    pub holds_rows : (rows : List Row) (pivots : List (List ℕ)) → rows ≡ rows_at store.tables c → pivots ≡ store.pivots.items → HoldsRows (state_of store) c pivots rows
+    pub holds_rows : (rows : List Row) (pivots : List (List ℕ)) → rows ≡ rows_at store.tables c → pivots ≡ store.pivots.items
+        → HoldsRows (state_of store) c pivots rows
     holds_rows rows pivots is are =
         subst (λ (rows : List Row). HoldsRows (state_of store) c pivots rows) (sym is)
         (subst (λ (pivots : List (List ℕ)). HoldsRows (state_of store) c pivots (rows_at store.tables c)) (sym are)
@@ -75,7 +76,8 @@ module _ (store : Store) (sound : IsStore store) where
 
     -- a table put back changes nothing
     pub same_store : (default rows : List Row) → rows ≡ get_or store.tables c default → record store { tables = slice_set store.tables c rows } ≡ store
-    same_store default rows is = ap (λ (tables : List (List Row)). record store { tables = tables }) (ap (slice_set store.tables c) is ∙ set-get_or store.tables c default)
+    same_store default rows is = ap (λ (tables : List (List Row)). record store { tables = tables }) (ap (slice_set store.tables c) is
+        ∙ set-get_or store.tables c default)
 
     pub few_rows : length (rows_at store.tables c) ≤ MEMORY_CAP
     few_rows = let some = length-part store.tables c in let room = sound.room in omega (arith, some, room)
@@ -102,14 +104,17 @@ module _ (store : Store) (sound : IsStore store) where
 
     -- ---- additions
 
-    pub added_existing : (id : ℕ) (object : List ℕ) → is_some (row_with id (rows_at store.tables c)) ≡ true → Says (state_of store) (command.Add c id object) Exists (state_of store)
+    pub added_existing : (id : ℕ) (object : List ℕ) → is_some (row_with id (rows_at store.tables c)) ≡ true
+        → Says (state_of store) (command.Add c id object) Exists (state_of store)
     added_existing id object there = add_existing (state_of store) c id object (there_if id there)
 
-    pub added_full : (id : ℕ) (object : List ℕ) → is_some (row_with id (rows_at store.tables c)) ≡ false → MEMORY_CAP ≤ sum_by length store.tables → Says (state_of store) (command.Add c id object) Full (state_of store)
+    pub added_full : (id : ℕ) (object : List ℕ) → is_some (row_with id (rows_at store.tables c)) ≡ false → MEMORY_CAP ≤ sum_by length store.tables
+        → Says (state_of store) (command.Add c id object) Full (state_of store)
     added_full id object none full =
         let many = length_under store.tables in add_full (state_of store) c id object (there_if id none) (omega (arith, many, full))
 
-    pub added_new : (id : ℕ) (object : List ℕ) → is_some (row_with id (rows_at store.tables c)) ≡ false → sum_by length store.tables < MEMORY_CAP → Says (state_of store) (command.Add c id object) Done (with_member (state_of store) c id object)
+    pub added_new : (id : ℕ) (object : List ℕ) → is_some (row_with id (rows_at store.tables c)) ≡ false → sum_by length store.tables < MEMORY_CAP
+        → Says (state_of store) (command.Add c id object) Done (with_member (state_of store) c id object)
     added_new id object none room =
         let many = length_under store.tables in add_new (state_of store) c id object (there_if id none) (omega (arith, many, room))
 
@@ -117,7 +122,8 @@ module _ (store : Store) (sound : IsStore store) where
       pub put_state : state_of (record store { tables = slice_set store.tables c rows }) ≡ with_member (state_of store) c row.id row.object
       put_state = ap (λ members. record (state_of store) { members = members }) (members_of-pushed store.tables c row rows below is distinct none)
 
-      pub put_sound : store.sampling ≡ false → sum_by length store.tables < MEMORY_CAP → IsValid store.space row.object → row.vect ≡ cells_of (dist store.space) store.pivots.items row.object → IsStore (record store { tables = slice_set store.tables c rows })
+      pub put_sound : store.sampling ≡ false → sum_by length store.tables < MEMORY_CAP → IsValid store.space row.object
+          → row.vect ≡ cells_of (dist store.space) store.pivots.items row.object → IsStore (record store { tables = slice_set store.tables c rows })
       put_sound shut room valid vect = record {
         in_range = sound.in_range;
         few_wanted = sound.few_wanted;
@@ -126,7 +132,8 @@ module _ (store : Store) (sound : IsStore store) where
         pivots = sound.pivots;
         rows = All-set (AreRows (IsValid store.space) (dist store.space) store.pivots.items) store.tables c rows
             (subst (AreRows (IsValid store.space) (dist store.space) store.pivots.items) (sym is)
-            (AreRows-push (IsValid store.space) (dist store.space) store.pivots.items (rows_at store.tables c) row held (let few = few_rows in omega (arith, few)) none valid vect))
+            (AreRows-push (IsValid store.space) (dist store.space) store.pivots.items (rows_at store.tables c) row held (let few = few_rows in
+                omega (arith, few)) none valid vect))
             sound.rows;
         room = let more = sum-pushed store.tables c row rows below is in omega (arith, more, room);
         four = length-set store.tables c rows ∙ sound.four;
@@ -135,14 +142,17 @@ module _ (store : Store) (sound : IsStore store) where
 
     -- ---- removals
 
-    pub dropped : (id : ℕ) → is_some (row_with id (rows_at store.tables c)) ≡ true → Says (state_of store) (command.Discard c id) Done (record (state_of store) { members = without_object (state_of store).members c id })
+    pub dropped : (id : ℕ) → is_some (row_with id (rows_at store.tables c)) ≡ true
+        → Says (state_of store) (command.Discard c id) Done (record (state_of store) { members = without_object (state_of store).members c id })
     dropped id there = drop_there (state_of store) c id (there_if id there)
 
-    pub dropped_nothing : (id : ℕ) → is_some (row_with id (rows_at store.tables c)) ≡ false → Says (state_of store) (command.Discard c id) Absent (state_of store)
+    pub dropped_nothing : (id : ℕ) → is_some (row_with id (rows_at store.tables c)) ≡ false
+        → Says (state_of store) (command.Discard c id) Absent (state_of store)
     dropped_nothing id none = drop_absent (state_of store) c id (there_if id none)
 
     module _ (id : ℕ) (left : List Row) (moved : IsPermutation (rows_without id (rows_at store.tables c)) left) where
-      pub cut_state : state_of (record store { tables = slice_set store.tables c left }) ≡ record (state_of store) { members = without_object (state_of store).members c id }
+      pub cut_state : state_of (record store { tables = slice_set store.tables c left })
+          ≡ record (state_of store) { members = without_object (state_of store).members c id }
       cut_state = ap (λ members. record (state_of store) { members = members }) (members_of-rows_without store.tables c id left below moved distinct)
 
       pub cut_sound : store.sampling ≡ false → IsStore (record store { tables = slice_set store.tables c left })
@@ -159,14 +169,16 @@ module _ (store : Store) (sound : IsStore store) where
         none_yet = λ opened. absurd (let both : true ≡ false = sym opened ∙ shut in cc);
       }
 
-  pub are_pivots : (admitted : List ℕ → Type 0) (distance : List ℕ → List ℕ → ℕ) → IsMetricOf admitted distance store.space → (pivots : List (List ℕ)) → pivots ≡ store.pivots.items → ArePivots admitted pivots
+  pub are_pivots : (admitted : List ℕ → Type 0) (distance : List ℕ → List ℕ → ℕ) → IsMetricOf admitted distance store.space → (pivots : List (List ℕ))
+      → pivots ≡ store.pivots.items → ArePivots admitted pivots
   are_pivots admitted distance metric pivots is =
       subst (ArePivots admitted) (sym is) (measured_pivots admitted distance store.space metric store.pivots.items sound.pivots)
 
 -- ---- the close
 
 -- the state with pivots by its samples, which it keeps no more
-pub closed_by : (store : Store) (pivots : List (List ℕ)) → store.sampling ≡ true → pivots ≡ chosen_samples (dist store.space) store.samples.items (min store.wanted (length store.samples.items))
+pub closed_by : (store : Store) (pivots : List (List ℕ)) → store.sampling ≡ true
+    → pivots ≡ chosen_samples (dist store.space) store.samples.items (min store.wanted (length store.samples.items))
     → record (state_of store) { pivots = pivots; samples = None } ≡ with_samples_closed (state_of store)
 closed_by store pivots kept is =
     ap (λ (pivots : List (List ℕ)). record (state_of store) { pivots = pivots; samples = None })

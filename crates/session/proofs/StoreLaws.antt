@@ -15,8 +15,10 @@ Says t asked said left = (reply_of t asked ≡ said) × (changed_state t asked �
 
 -- ---- samples
 
-kept_as : (t : State) (object : List ℕ) (samples kept : Option (List (List ℕ))) → t.samples ≡ samples → with_sample samples object ≡ kept → record t { samples = with_sample t.samples object } ≡ record t { samples = kept }
-kept_as t object samples kept is with = ap (λ (kept : Option (List (List ℕ))). record t { samples = kept }) (ap (λ (kept : Option (List (List ℕ))). with_sample kept object) is ∙ with)
+kept_as : (t : State) (object : List ℕ) (samples kept : Option (List (List ℕ))) → t.samples ≡ samples → with_sample samples object ≡ kept
+    → record t { samples = with_sample t.samples object } ≡ record t { samples = kept }
+kept_as t object samples kept is with = ap (λ (kept : Option (List (List ℕ))). record t { samples = kept })
+    (ap (λ (kept : Option (List (List ℕ))). with_sample kept object) is ∙ with)
 
 same_samples : (t : State) (samples : Option (List (List ℕ))) → t.samples ≡ samples → record t { samples = samples } ≡ t
 same_samples t samples is = ap (λ (kept : Option (List (List ℕ))). record t { samples = kept }) (sym is)
@@ -25,15 +27,18 @@ pub sample_late : (t : State) (object : List ℕ) → t.samples ≡ None → Say
 unfolding reply_of changed_state
 sample_late t object is = (ap sample_reply is, kept_as t object None None is refl ∙ same_samples t None is)
 
-pub sample_full : (t : State) (object : List ℕ) (kept : List (List ℕ)) → t.samples ≡ Some kept → SAMPLE_LIMIT ≤ length kept → Says t (command.Sample object) Full t
+pub sample_full : (t : State) (object : List ℕ) (kept : List (List ℕ)) → t.samples ≡ Some kept → SAMPLE_LIMIT ≤ length kept
+    → Says t (command.Sample object) Full t
 unfolding reply_of changed_state
 sample_full t object kept is full =
     let no_room : nat_le SAMPLE_LIMIT (length kept) ≡ true = grind (arith, nat_tests) in (
       ap sample_reply is ∙ ap (λ b. if b then Full else Done) no_room,
-      kept_as t object (Some kept) (Some kept) is (ap (λ (b : Bool). if b then Some kept else Some (kept ++ object ∷ [])) no_room) ∙ same_samples t (Some kept) is,
+      kept_as t object (Some kept) (Some kept) is (ap (λ (b : Bool). if b then Some kept else Some (kept ++ object ∷ [])) no_room)
+          ∙ same_samples t (Some kept) is,
     )
 
-pub sample_kept : (t : State) (object : List ℕ) (kept : List (List ℕ)) → t.samples ≡ Some kept → length kept < SAMPLE_LIMIT → Says t (command.Sample object) Done (record t { samples = Some (kept ++ object ∷ []) })
+pub sample_kept : (t : State) (object : List ℕ) (kept : List (List ℕ)) → t.samples ≡ Some kept → length kept < SAMPLE_LIMIT
+    → Says t (command.Sample object) Done (record t { samples = Some (kept ++ object ∷ []) })
 unfolding reply_of changed_state
 sample_kept t object kept is room =
     let some_room : nat_le SAMPLE_LIMIT (length kept) ≡ false = grind (arith, nat_tests) in (

@@ -28,51 +28,60 @@ first_place-earliest n (x ∷ xs) (suc k) inside is =
     grind (arith, nat_tests)
 
 -- a prefix of the choice is the choice of fewer
-take-whole : (dist : List ℕ → List ℕ → ℕ) (samples : List (List ℕ)) (turn n : ℕ) → turn ≡ n → take turn (chosen_places dist samples n) ≡ chosen_places dist samples turn
+take-whole : (dist : List ℕ → List ℕ → ℕ) (samples : List (List ℕ)) (turn n : ℕ) → turn ≡ n
+    → take turn (chosen_places dist samples n) ≡ chosen_places dist samples turn
 take-whole dist samples turn n is =
     let many = chosen-length dist samples n in
     take_all turn (chosen_places dist samples n) (omega arith) ∙ ap (chosen_places dist samples) (sym is)
 
-take-front : (dist : List ℕ → List ℕ → ℕ) (samples : List (List ℕ)) (turn n : ℕ) → turn ≤ n → take turn (chosen_places dist samples (suc n)) ≡ take turn (chosen_places dist samples n)
+take-front : (dist : List ℕ → List ℕ → ℕ) (samples : List (List ℕ)) (turn n : ℕ) → turn ≤ n
+    → take turn (chosen_places dist samples (suc n)) ≡ take turn (chosen_places dist samples n)
 unfolding chosen_places
 take-front dist samples turn n within =
     let front = chosen_places dist samples n in
     let many = chosen-length dist samples n in
     take-append-le turn front (next_place dist samples front ∷ []) (omega arith)
 
-take-chosen : (dist : List ℕ → List ℕ → ℕ) (samples : List (List ℕ)) (turn n : ℕ) → turn ≤ n → take turn (chosen_places dist samples n) ≡ chosen_places dist samples turn
+take-chosen : (dist : List ℕ → List ℕ → ℕ) (samples : List (List ℕ)) (turn n : ℕ) → turn ≤ n
+    → take turn (chosen_places dist samples n) ≡ chosen_places dist samples turn
 take-chosen dist samples turn zero within = take-whole dist samples turn 0 (omega arith)
 take-chosen dist samples turn (suc n) within = either (λ (below : turn ≤ n). take-chosen dist samples turn n below) (turn == suc n) refl
   where
-    either : (turn ≤ n → take turn (chosen_places dist samples n) ≡ chosen_places dist samples turn) → (b : Bool) → (turn == suc n) ≡ b → take turn (chosen_places dist samples (suc n)) ≡ chosen_places dist samples turn
+    either : (turn ≤ n → take turn (chosen_places dist samples n) ≡ chosen_places dist samples turn) → (b : Bool) → (turn == suc n) ≡ b
+        → take turn (chosen_places dist samples (suc n)) ≡ chosen_places dist samples turn
     either rest true is = take-whole dist samples turn (suc n) (grind (arith, nat_tests))
     either rest false is =
         let below : turn ≤ n = grind (arith, nat_tests) in
         take-front dist samples turn n below ∙ rest below
 
 -- and each place is the next one after them
-at-last : (dist : List ℕ → List ℕ → ℕ) (samples : List (List ℕ)) (n : ℕ) → get_or (chosen_places dist samples (suc n)) n 0 ≡ next_place dist samples (chosen_places dist samples n)
+at-last : (dist : List ℕ → List ℕ → ℕ) (samples : List (List ℕ)) (n : ℕ)
+    → get_or (chosen_places dist samples (suc n)) n 0 ≡ next_place dist samples (chosen_places dist samples n)
 unfolding chosen_places
 at-last dist samples n =
     let front = chosen_places dist samples n in
     let next = next_place dist samples front in
     ap (λ (k : ℕ). get_or (front ++ next ∷ []) k 0) (sym (chosen-length dist samples n)) ∙ get_or-append_seam front next [] 0
 
-at-front : (dist : List ℕ → List ℕ → ℕ) (samples : List (List ℕ)) (turn n : ℕ) → turn < n → get_or (chosen_places dist samples (suc n)) turn 0 ≡ get_or (chosen_places dist samples n) turn 0
+at-front : (dist : List ℕ → List ℕ → ℕ) (samples : List (List ℕ)) (turn n : ℕ) → turn < n
+    → get_or (chosen_places dist samples (suc n)) turn 0 ≡ get_or (chosen_places dist samples n) turn 0
 unfolding chosen_places
 at-front dist samples turn n within =
     let front = chosen_places dist samples n in
     let many = chosen-length dist samples n in
     get_or_append_left front (next_place dist samples front ∷ []) 0 turn (omega arith)
 
-at-chosen : (dist : List ℕ → List ℕ → ℕ) (samples : List (List ℕ)) (turn n : ℕ) → turn < n → get_or (chosen_places dist samples n) turn 0 ≡ next_place dist samples (chosen_places dist samples turn)
+at-chosen : (dist : List ℕ → List ℕ → ℕ) (samples : List (List ℕ)) (turn n : ℕ) → turn < n
+    → get_or (chosen_places dist samples n) turn 0 ≡ next_place dist samples (chosen_places dist samples turn)
 at-chosen dist samples turn zero within = absurd (omega arith)
 at-chosen dist samples turn (suc n) within = either (λ (below : turn < n). at-chosen dist samples turn n below) (turn == n) refl
   where
-    either : (turn < n → get_or (chosen_places dist samples n) turn 0 ≡ next_place dist samples (chosen_places dist samples turn)) → (b : Bool) → (turn == n) ≡ b → get_or (chosen_places dist samples (suc n)) turn 0 ≡ next_place dist samples (chosen_places dist samples turn)
+    either : (turn < n → get_or (chosen_places dist samples n) turn 0 ≡ next_place dist samples (chosen_places dist samples turn)) → (b : Bool)
+        → (turn == n) ≡ b → get_or (chosen_places dist samples (suc n)) turn 0 ≡ next_place dist samples (chosen_places dist samples turn)
     either rest true is =
         let same : turn ≡ n = grind (arith, nat_tests) in
-        ap (λ (k : ℕ). get_or (chosen_places dist samples (suc n)) k 0) same ∙ at-last dist samples n ∙ ap (λ (k : ℕ). next_place dist samples (chosen_places dist samples k)) (sym same)
+        ap (λ (k : ℕ). get_or (chosen_places dist samples (suc n)) k 0) same ∙ at-last dist samples n
+            ∙ ap (λ (k : ℕ). next_place dist samples (chosen_places dist samples k)) (sym same)
     either rest false is =
         let below : turn < n = grind (arith, nat_tests) in
         at-front dist samples turn n below ∙ rest below
@@ -86,7 +95,8 @@ sum-of-worth : (a : Bool) (s w : ℕ) → w ≡ (if a then 0 else 1 + s) → 0 <
 sum-of-worth true s w is some = absurd (omega arith)
 sum-of-worth false s w is some = is
 
-next-farthest : (dist : List ℕ → List ℕ → ℕ) (samples : List (List ℕ)) (chosen : List ℕ) (place : ℕ) → place < length samples → list_any (λ (other : ℕ). other == place) chosen ≡ false →
+next-farthest : (dist : List ℕ → List ℕ → ℕ) (samples : List (List ℕ)) (chosen : List ℕ) (place : ℕ) → place < length samples
+    → list_any (λ (other : ℕ). other == place) chosen ≡ false →
     (sum_to dist samples chosen place ≤ sum_to dist samples chosen (next_place dist samples chosen))
     × (sum_to dist samples chosen place ≡ sum_to dist samples chosen (next_place dist samples chosen) → next_place dist samples chosen ≤ place)
 next-farthest dist samples chosen place inside new =
@@ -99,8 +109,10 @@ next-farthest dist samples chosen place inside new =
     let there : get_or worths best 0 ≡ f best = get_or-map-range_with_len f 0 (length samples) best best 0 (omega arith) (omega arith) in
     let holds : get_or worths best 0 ≡ greatest worths = first_place-holds worths in
     let above : get_or worths place 0 ≤ greatest worths = greatest-above worths place in
-    let sum : f place ≡ 1 + sum_to dist samples chosen place = worth-of-sum (list_any (λ (other : ℕ). other == place) chosen) (sum_to dist samples chosen place) new in
-    let sum_of_best : greatest worths ≡ 1 + sum_to dist samples chosen best = sum-of-worth (list_any (λ (other : ℕ). other == best) chosen) (sum_to dist samples chosen best) (greatest worths) (sym holds ∙ there) (omega arith) in (
+    let sum : f place ≡ 1 + sum_to dist samples chosen place =
+        worth-of-sum (list_any (λ (other : ℕ). other == place) chosen) (sum_to dist samples chosen place) new in
+    let sum_of_best : greatest worths ≡ 1 + sum_to dist samples chosen best =
+        sum-of-worth (list_any (λ (other : ℕ). other == best) chosen) (sum_to dist samples chosen best) (greatest worths) (sym holds ∙ there) (omega arith) in (
       omega arith,
       λ (equal : sum_to dist samples chosen place ≡ sum_to dist samples chosen best).
           first_place-earliest (greatest worths) worths place (omega arith) (omega arith),
@@ -159,7 +171,8 @@ worth-none true s low = refl
 worth-none false s low = absurd (omega arith)
 
 -- fewer places than there are samples leave one that is worth something
-greatest-some : (dist : List ℕ → List ℕ → ℕ) (samples : List (List ℕ)) (chosen : List ℕ) → length chosen < length samples → 0 < greatest (map (worth dist samples chosen) (range_with_len 0 (length samples)))
+greatest-some : (dist : List ℕ → List ℕ → ℕ) (samples : List (List ℕ)) (chosen : List ℕ) → length chosen < length samples
+    → 0 < greatest (map (worth dist samples chosen) (range_with_len 0 (length samples)))
 greatest-some dist samples chosen fewer = by (greatest worths) refl
   where
     worths : List ℕ
@@ -168,7 +181,8 @@ greatest-some dist samples chosen fewer = by (greatest worths) refl
     is_chosen : greatest worths ≡ 0 → (q : ℕ) → is_member nat_eq (range_with_len 0 (length samples)) q ≡ true → is_member nat_eq chosen q ≡ true
     is_chosen none q member =
         let inside = member-below (length samples) q member in
-        let here : get_or worths q 0 ≡ worth dist samples chosen q = get_or-map-range_with_len (worth dist samples chosen) 0 (length samples) q q 0 inside (omega arith) in
+        let here : get_or worths q 0 ≡ worth dist samples chosen q =
+            get_or-map-range_with_len (worth dist samples chosen) 0 (length samples) q q 0 inside (omega arith) in
         let above : get_or worths q 0 ≤ greatest worths = greatest-above worths q in
         any_flip q chosen ∙ worth-none (list_any (λ (other : ℕ). other == q) chosen) (sum_to dist samples chosen q) (omega arith)
 
@@ -183,7 +197,8 @@ not-chosen-when : (a : Bool) (s : ℕ) → 0 < (if a then 0 else 1 + s) → a �
 not-chosen-when true s some = absurd (omega arith)
 not-chosen-when false s some = refl
 
-next-new : (dist : List ℕ → List ℕ → ℕ) (samples : List (List ℕ)) (chosen : List ℕ) → length chosen < length samples → list_any (λ (other : ℕ). other == next_place dist samples chosen) chosen ≡ false
+next-new : (dist : List ℕ → List ℕ → ℕ) (samples : List (List ℕ)) (chosen : List ℕ) → length chosen < length samples
+    → list_any (λ (other : ℕ). other == next_place dist samples chosen) chosen ≡ false
 next-new dist samples chosen fewer =
     let f = worth dist samples chosen in
     let worths = map f (range_with_len 0 (length samples)) in
@@ -205,7 +220,8 @@ chosen-distinct dist samples (suc n) enough =
     let front = chosen_places dist samples n in
     let many : length front ≡ n = chosen-length dist samples n in
     let new = next-new dist samples front (omega arith) in
-    IsDistinct-push nat_eq_equiv front (next_place dist samples front) (chosen-distinct dist samples n (omega arith)) (any_flip (next_place dist samples front) front ∙ new)
+    IsDistinct-push nat_eq_equiv front (next_place dist samples front) (chosen-distinct dist samples n (omega arith))
+        (any_flip (next_place dist samples front) front ∙ new)
 
 pub is_choice : (dist : List ℕ → List ℕ → ℕ) (samples : List (List ℕ)) (n : ℕ) → n ≤ length samples → IsChoice dist samples n (chosen_places dist samples n)
 is_choice dist samples n enough = record {
@@ -224,7 +240,8 @@ take-twice (suc turn) (suc n) [] within = refl
 take-twice (suc turn) (suc n) (x ∷ xs) within = ap (λ (ys : List ℕ). x ∷ ys) (take-twice turn n xs (omega arith))
 
 -- the places but the last
-choice-front : (dist : List ℕ → List ℕ → ℕ) (samples : List (List ℕ)) (n : ℕ) (places : List ℕ) → IsChoice dist samples (suc n) places → IsChoice dist samples n (take n places)
+choice-front : (dist : List ℕ → List ℕ → ℕ) (samples : List (List ℕ)) (n : ℕ) (places : List ℕ) → IsChoice dist samples (suc n) places
+    → IsChoice dist samples n (take n places)
 unfolding at-turn
 choice-front dist samples n places c =
     let count = c.count in
@@ -238,7 +255,8 @@ choice-front dist samples n places c =
       distinct = IsDistinct-from_apart nat_eq (take n places) (λ i j d below inside.
           let first : get_or (take n places) i d ≡ get_or places i d = get_or-take n places i d (omega arith) in
           let second : get_or (take n places) j d ≡ get_or places j d = get_or-take n places j d (omega arith) in
-          ap (λ (k : ℕ). nat_eq k (get_or (take n places) j d)) first ∙ ap (nat_eq (get_or places i d)) second ∙ apart_from_distinct nat_eq places i j d c.distinct below (omega arith));
+          ap (λ (k : ℕ). nat_eq k (get_or (take n places) j d)) first ∙ ap (nat_eq (get_or places i d)) second
+              ∙ apart_from_distinct nat_eq places i j d c.distinct below (omega arith));
       farthest = λ turn place within inside new.
           let front : take turn (take n places) ≡ take turn places = take-twice turn n places (omega arith) in
           let next : get_or (take n places) turn 0 ≡ get_or places turn 0 = get_or-take n places turn 0 (omega arith) in
@@ -250,15 +268,18 @@ choice-front dist samples n places c =
 flip-apart : (i j : ℕ) → nat_eq i j ≡ false → (i == j) ≡ false
 flip-apart i j e = grind (arith, nat_tests)
 
-last-new : (n : ℕ) (places : List ℕ) → IsDistinct nat_eq places → length places ≡ suc n → list_any (λ (other : ℕ). other == get_or places n 0) (take n places) ≡ false
+last-new : (n : ℕ) (places : List ℕ) → IsDistinct nat_eq places → length places ≡ suc n
+    → list_any (λ (other : ℕ). other == get_or places n 0) (take n places) ≡ false
 last-new n places distinct many =
     let last = get_or places n 0 in
     let fewer : length (take n places) ≡ n = length-take-le n places (omega arith) in
     list_any_none (λ (other : ℕ). other == last) (take n places) (All-from_get_or (λ (other : ℕ). (other == last) ≡ false) (take n places) 0 (λ k inside.
     let same : get_or (take n places) k 0 ≡ get_or places k 0 = get_or-take n places k 0 (omega arith) in
-    ap (λ (other : ℕ). other == last) same ∙ flip-apart (get_or places k 0) last (apart_from_distinct nat_eq places k n 0 distinct (omega arith) (omega arith))))
+    ap (λ (other : ℕ). other == last) same
+        ∙ flip-apart (get_or places k 0) last (apart_from_distinct nat_eq places k n 0 distinct (omega arith) (omega arith))))
 
-last-is-next : (dist : List ℕ → List ℕ → ℕ) (samples : List (List ℕ)) (n : ℕ) (places : List ℕ) → IsChoice dist samples (suc n) places → suc n ≤ length samples → get_or places n 0 ≡ next_place dist samples (take n places)
+last-is-next : (dist : List ℕ → List ℕ → ℕ) (samples : List (List ℕ)) (n : ℕ) (places : List ℕ) → IsChoice dist samples (suc n) places → suc n ≤ length samples
+    → get_or places n 0 ≡ next_place dist samples (take n places)
 last-is-next dist samples n places c enough =
     let front = take n places in
     let last = get_or places n 0 in
@@ -274,7 +295,8 @@ last-is-next dist samples n places c enough =
     let last_first : last ≤ next = other.1 (sym sums) in
     omega arith
 
-pub no_other : (dist : List ℕ → List ℕ → ℕ) (samples : List (List ℕ)) (n : ℕ) (places : List ℕ) → n ≤ length samples → IsChoice dist samples n places → places ≡ chosen_places dist samples n
+pub no_other : (dist : List ℕ → List ℕ → ℕ) (samples : List (List ℕ)) (n : ℕ) (places : List ℕ) → n ≤ length samples → IsChoice dist samples n places
+    → places ≡ chosen_places dist samples n
 unfolding chosen_places
 no_other dist samples zero places enough c = nil_from_length places c.count
 no_other dist samples (suc n) places enough c =

@@ -26,7 +26,8 @@ sample_same : (samples : Option (List (List ℕ))) (object : List ℕ) → sampl
 sample_same None object none = refl
 sample_same (Some kept) object none = absurd (cc)
 
-same_by_add : (there full : Bool) (t more : State) → is_ok (if there then Exists else (if full then Full else Done)) ≡ false → (if there then t else (if full then t else more)) ≡ t
+same_by_add : (there full : Bool) (t more : State) → is_ok (if there then Exists else (if full then Full else Done)) ≡ false
+    → (if there then t else (if full then t else more)) ≡ t
 same_by_add true full t more no_change = refl
 same_by_add false true t more no_change = refl
 same_by_add false false t more no_change = absurd (cc)
@@ -50,7 +51,8 @@ same_by s (command.Range c r object) none no_change = closed_same s none
 same_by s (command.Near c k object) none no_change = closed_same s none
 same_by s (command.Join c d r) none no_change = closed_same s none
 
-same_by_text : (s : State) (read : Result Command What) → s.samples ≡ None → (if is_update read then is_ok (reply_read s read) else false) ≡ false → state_after_read s read ≡ s
+same_by_text : (s : State) (read : Result Command What) → s.samples ≡ None → (if is_update read then is_ok (reply_read s read) else false) ≡ false
+    → state_after_read s read ≡ s
 same_by_text s (Ok c) none no_change = same_by s c none no_change
 same_by_text s (Err failed) none no_change = refl
 
@@ -62,7 +64,8 @@ same s line.End none no_change = refl
 
 -- ---- the samples stay closed
 
-stays_by_add : (there full : Bool) (t : State) (more : State) → t.samples ≡ None → more.samples ≡ None → (if there then t else (if full then t else more)).samples ≡ None
+stays_by_add : (there full : Bool) (t : State) (more : State) → t.samples ≡ None → more.samples ≡ None
+    → (if there then t else (if full then t else more)).samples ≡ None
 stays_by_add true full t more none still = none
 stays_by_add false true t more none still = none
 stays_by_add false false t more none still = still
@@ -74,8 +77,10 @@ stays_by_drop false t less none still = none
 stays_by : (s : State) (c : Command) → s.samples ≡ None → (state_after s c).samples ≡ None
 unfolding changed_state
 stays_by s (command.Sample object) none = sample_same s.samples object none ∙ none
-stays_by s (command.Add c id object) none = let t = with_samples_closed s in stays_by_add (is_some (object_at t c id)) (is_full t) t (record t { members = with_object t.members c id object }) refl refl
-stays_by s (command.Discard c id) none = let t = with_samples_closed s in stays_by_drop (is_some (object_at t c id)) t (record t { members = without_object t.members c id }) refl refl
+stays_by s (command.Add c id object) none = let t = with_samples_closed s in
+    stays_by_add (is_some (object_at t c id)) (is_full t) t (record t { members = with_object t.members c id object }) refl refl
+stays_by s (command.Discard c id) none = let t = with_samples_closed s in
+    stays_by_drop (is_some (object_at t c id)) t (record t { members = without_object t.members c id }) refl refl
 stays_by s (command.Get c id) none = refl
 stays_by s (command.Count c) none = refl
 stays_by s (command.Range c r object) none = refl
@@ -108,10 +113,14 @@ to_changes [] s (suc many) none = contains_first s []
 to_changes (l ∷ lines) s zero none = contains_first s (changed_states s (l ∷ lines))
 to_changes (l ∷ lines) s (suc many) none = by_change (is_change s l) refl (to_changes lines (next_state s l) many (stays s l none))
   where
-    by_change : (b : Bool) → is_change s l ≡ b → Contains (next_state s l ∷ changed_states (next_state s l) lines) (state_after_lines (next_state s l) (take many lines)) →
-        Contains (s ∷ (if b then next_state s l ∷ changed_states (next_state s l) lines else changed_states (next_state s l) lines)) (state_after_lines (next_state s l) (take many lines))
-    by_change true is rest = contains_more s (next_state s l ∷ changed_states (next_state s l) lines) (state_after_lines (next_state s l) (take many lines)) rest
-    by_change false is rest = subst (λ (t : State). Contains (t ∷ changed_states (next_state s l) lines) (state_after_lines (next_state s l) (take many lines))) (same s l none is) rest
+    by_change : (b : Bool) → is_change s l ≡ b
+        → Contains (next_state s l ∷ changed_states (next_state s l) lines) (state_after_lines (next_state s l) (take many lines)) →
+        Contains (s ∷ (if b then next_state s l ∷ changed_states (next_state s l) lines else changed_states (next_state s l) lines))
+            (state_after_lines (next_state s l) (take many lines))
+    by_change true is rest = contains_more s (next_state s l ∷ changed_states (next_state s l) lines) (state_after_lines (next_state s l) (take many lines))
+        rest
+    by_change false is rest = subst (λ (t : State). Contains (t ∷ changed_states (next_state s l) lines)
+        (state_after_lines (next_state s l) (take many lines))) (same s l none is) rest
 
 pub reached_changes : (s : State) (script : List ℕ) (t : State) → s.samples ≡ None → IsReached s (lines_of LINE_LIMIT script) t → Contains (changes s script) t
 reached_changes s script t none r = subst (Contains (changes s script)) (sym r.is) (to_changes (lines_of LINE_LIMIT script) s r.many none)
@@ -131,7 +140,8 @@ to_lines (l ∷ lines) s t (zero, inside, is) = reached_now s (l ∷ lines) t is
 to_lines (l ∷ lines) s t (suc k, inside, is) =
     by_change (is_change s l) k inside is (λ h. reached_later s l lines t (to_lines lines (next_state s l) t h))
   where
-    by_change : (b : Bool) (k : ℕ) → suc k < suc (length (if b then next_state s l ∷ changed_states (next_state s l) lines else changed_states (next_state s l) lines))
+    by_change : (b : Bool) (k : ℕ) → suc k < suc
+        (length (if b then next_state s l ∷ changed_states (next_state s l) lines else changed_states (next_state s l) lines))
         → get_or (if b then next_state s l ∷ changed_states (next_state s l) lines else changed_states (next_state s l) lines) k t ≡ t
         → (Contains (next_state s l ∷ changed_states (next_state s l) lines) t → IsReached s (l ∷ lines) t) → IsReached s (l ∷ lines) t
     by_change true k inside is later = later (k, omega arith, is)

@@ -22,7 +22,8 @@ kept_by_sample None object refused = refl
 kept_by_sample (Some kept) object refused = kept_by_room (nat_le SAMPLE_LIMIT (length kept)) kept _ refused
 
 -- an addition, by whether the key is there and whether there is room
-kept_by_add : (there full : Bool) (s more : State) → IsRefusal (if there then Exists else (if full then Full else Done)) → (if there then s else (if full then s else more)) ≡ s
+kept_by_add : (there full : Bool) (s more : State) → IsRefusal (if there then Exists else (if full then Full else Done))
+    → (if there then s else (if full then s else more)) ≡ s
 kept_by_add true full s more refused = refl
 kept_by_add false true s more refused = refl
 kept_by_add false false s more refused = absurd refused
@@ -78,7 +79,8 @@ module _ (s : State) (text : List ℕ) where
   by_command (command.Near c k object) is keeps refused = closing (command.Near c k object) (λ x. absurd (let e = x.1 in cc)) is keeps refused
   by_command (command.Join c d r) is keeps refused = closing (command.Join c d r) (λ x. absurd (let e = x.1 in cc)) is keeps refused
 
-  by_text : (read : Result Command What) → command_of s.space text ≡ read → (ClosesSamples s.space (line.Text text) → ⊥) → IsRefusal (reply_read s read) → state_after_read s read ≡ s
+  by_text : (read : Result Command What) → command_of s.space text ≡ read → (ClosesSamples s.space (line.Text text) → ⊥) → IsRefusal (reply_read s read)
+      → state_after_read s read ≡ s
   by_text (Ok c) is keeps refused = by_command c is keeps refused
   by_text (Err failed) is keeps refused = refl
 

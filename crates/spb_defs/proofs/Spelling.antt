@@ -92,7 +92,8 @@ checked_space-some space s e =
 abbrev IsSpelled : List ℕ → List (List ℕ) → Space → Type 0
 IsSpelled kind parameters s = IsTrue (fits s) × (kind ≡ kind_of s) × (parameters ≡ parameters_of s)
 
-with-one : (make : ℕ → Space) (kind first : List ℕ) (s : Space) → ((n : ℕ) → kind ≡ kind_of (make n)) → ((n : ℕ) → parameters_of (make n) ≡ decimal n ∷ []) → space_with_one make first ≡ Some s → IsSpelled kind (first ∷ []) s
+with-one : (make : ℕ → Space) (kind first : List ℕ) (s : Space) → ((n : ℕ) → kind ≡ kind_of (make n)) → ((n : ℕ) → parameters_of (make n) ≡ decimal n ∷ [])
+    → space_with_one make first ≡ Some s → IsSpelled kind (first ∷ []) s
 with-one make kind first s kinds shown e =
     let n = then-some (λ n. checked_space (make n)) (parameter_in first) s e in
     let made = checked_space-some (make n.0) s n.2 in
@@ -102,7 +103,8 @@ with-one make kind first s kinds shown e =
       ap (λ w. w ∷ []) word ∙ sym (shown n.0) ∙ ap parameters_of made.1,
     )
 
-with-two : (make : ℕ → ℕ → Space) (kind first second : List ℕ) (s : Space) → ((m n : ℕ) → kind ≡ kind_of (make m n)) → ((m n : ℕ) → parameters_of (make m n) ≡ decimal m ∷ decimal n ∷ []) → space_with_two make first second ≡ Some s → IsSpelled kind (first ∷ second ∷ []) s
+with-two : (make : ℕ → ℕ → Space) (kind first second : List ℕ) (s : Space) → ((m n : ℕ) → kind ≡ kind_of (make m n))
+    → ((m n : ℕ) → parameters_of (make m n) ≡ decimal m ∷ decimal n ∷ []) → space_with_two make first second ≡ Some s → IsSpelled kind (first ∷ second ∷ []) s
 with-two make kind first second s kinds shown e =
     let m = then-some (λ m. option_and_then (λ n. checked_space (make m n)) (parameter_in second)) (parameter_in first) s e in
     let n = then-some (λ n. checked_space (make m.0 n)) (parameter_in second) s m.2 in
@@ -122,9 +124,13 @@ space-spelled kind (first ∷ []) s e =
 space-spelled kind (first ∷ second ∷ []) s e =
     ⊎_elim (λ h. with-two L1 kind first second s (λ m n. word-is kind (codes "l1") h.0) (λ m n. refl) h.1)
     (λ rest. ⊎_elim (λ h. with-two LInf kind first second s (λ m n. word-is kind (codes "linf") h.0) (λ m n. refl) h.1)
-    (λ last. let h = if-some (bytes_eq kind (codes "sets")) (space_with_two Sets first second) s last in with-two Sets kind first second s (λ m n. word-is kind (codes "sets") h.0) (λ m n. refl) h.1)
-    (either (bytes_eq kind (codes "linf")) (space_with_two LInf first second) (if bytes_eq kind (codes "sets") then space_with_two Sets first second else None) s rest))
-    (either (bytes_eq kind (codes "l1")) (space_with_two L1 first second) (if bytes_eq kind (codes "linf") then space_with_two LInf first second else (if bytes_eq kind (codes "sets") then space_with_two Sets first second else None)) s e)
+    (λ last. let h = if-some (bytes_eq kind (codes "sets")) (space_with_two Sets first second) s last in
+        with-two Sets kind first second s (λ m n. word-is kind (codes "sets") h.0) (λ m n. refl) h.1)
+    (either (bytes_eq kind (codes "linf")) (space_with_two LInf first second) (if bytes_eq kind (codes "sets") then space_with_two Sets first second else None)
+        s rest))
+    (either (bytes_eq kind (codes "l1")) (space_with_two L1 first second)
+        (if bytes_eq kind (codes "linf") then space_with_two LInf first second else
+        (if bytes_eq kind (codes "sets") then space_with_two Sets first second else None)) s e)
 space-spelled kind (first ∷ second ∷ third ∷ rest) s e = absurd (none-some s e)
 
 checked_space-itself : (s : Space) → IsTrue (fits s) → checked_space s ≡ Some s
@@ -133,7 +139,8 @@ checked_space-itself s h = ap (λ b. if b then Some s else None) h
 one-read : (make : ℕ → Space) (n : ℕ) → n ≤ 4294967295 → IsTrue (fits (make n)) → space_with_one make (decimal n) ≡ Some (make n)
 one-read make n small h = ap (option_and_then (λ n. checked_space (make n))) (parameter-read n small) ∙ checked_space-itself (make n) h
 
-two-read : (make : ℕ → ℕ → Space) (m n : ℕ) → m ≤ 4294967295 → n ≤ 4294967295 → IsTrue (fits (make m n)) → space_with_two make (decimal m) (decimal n) ≡ Some (make m n)
+two-read : (make : ℕ → ℕ → Space) (m n : ℕ) → m ≤ 4294967295 → n ≤ 4294967295 → IsTrue (fits (make m n))
+    → space_with_two make (decimal m) (decimal n) ≡ Some (make m n)
 two-read make m n few small h =
     ap (option_and_then (λ m. option_and_then (λ n. checked_space (make m n)) (parameter_in (decimal n)))) (parameter-read m few)
     ∙ ap (option_and_then (λ n. checked_space (make m n))) (parameter-read n small) ∙ checked_space-itself (make m n) h
@@ -154,13 +161,15 @@ SpellsMem kind parameters setup =
     IsTrue (fits setup.space) × (setup.pivots ≤ PIVOT_LIMIT) × (kind ≡ kind_of setup.space)
     × ((setup.pivots ≡ 0) × (parameters ≡ parameters_of setup.space) ⊎ (parameters ≡ parameters_of setup.space ++ decimal setup.pivots ∷ []))
 
-without-spelled : (kind : List ℕ) (parameters : List (List ℕ)) (setup : MemorySetup) → without_pivots (space_in kind parameters) ≡ Some setup → SpellsMem kind parameters setup
+without-spelled : (kind : List ℕ) (parameters : List (List ℕ)) (setup : MemorySetup) → without_pivots (space_in kind parameters) ≡ Some setup
+    → SpellsMem kind parameters setup
 without-spelled kind parameters setup e =
     let s = map-some (λ s. record { space = s; pivots = 0 }) (space_in kind parameters) setup e in
     let spelled = space-spelled kind parameters s.0 s.1 in
     subst (SpellsMem kind parameters) s.2 (spelled.0, omega arith, spelled.1, inl (refl, spelled.2))
 
-with-spelled : (kind : List ℕ) (parameters : List (List ℕ)) (word : List ℕ) (setup : MemorySetup) → with_pivots (space_in kind parameters) word ≡ Some setup → SpellsMem kind (parameters ++ word ∷ []) setup
+with-spelled : (kind : List ℕ) (parameters : List (List ℕ)) (word : List ℕ) (setup : MemorySetup) → with_pivots (space_in kind parameters) word ≡ Some setup
+    → SpellsMem kind (parameters ++ word ∷ []) setup
 with-spelled kind parameters word setup e =
     let s = then-some (λ s. option_map (λ n. record { space = s; pivots = n }) (number_within PIVOT_LIMIT word)) (space_in kind parameters) setup e in
     let n = map-some (λ n. record { space = s.0; pivots = n }) (number_within PIVOT_LIMIT word) setup s.2 in
@@ -180,7 +189,8 @@ setup-spelled kind (first ∷ second ∷ third ∷ fourth ∷ rest) setup e = ab
 without-read : (s : Space) → IsTrue (fits s) → without_pivots (space_in (kind_of s) (parameters_of s)) ≡ Some (record { space = s; pivots = 0 })
 without-read s h = ap without_pivots (space-read s h)
 
-with-read : (s : Space) (n : ℕ) → IsTrue (fits s) → n ≤ PIVOT_LIMIT → with_pivots (space_in (kind_of s) (parameters_of s)) (decimal n) ≡ Some (record { space = s; pivots = n })
+with-read : (s : Space) (n : ℕ) → IsTrue (fits s) → n ≤ PIVOT_LIMIT
+    → with_pivots (space_in (kind_of s) (parameters_of s)) (decimal n) ≡ Some (record { space = s; pivots = n })
 with-read s n h few =
     ap (λ (o : Option Space). with_pivots o (decimal n)) (space-read s h)
     ∙ ap (option_map (λ n. record { space = s; pivots = n })) (decimal-number_within PIVOT_LIMIT n few (omega (arith, few)))
@@ -192,7 +202,8 @@ plain-read (LInf dim most) h = without-read (LInf dim most) h
 plain-read (Hamming len) h = without-read (Hamming len) h
 plain-read (Sets universe most) h = without-read (Sets universe most) h
 
-more-read : (s : Space) (n : ℕ) → IsTrue (fits s) → n ≤ PIVOT_LIMIT → setup_in (kind_of s) (parameters_of s ++ decimal n ∷ []) ≡ Some (record { space = s; pivots = n })
+more-read : (s : Space) (n : ℕ) → IsTrue (fits s) → n ≤ PIVOT_LIMIT
+    → setup_in (kind_of s) (parameters_of s ++ decimal n ∷ []) ≡ Some (record { space = s; pivots = n })
 more-read (L1 dim most) n h few = with-read (L1 dim most) n h few
 more-read (LInf dim most) n h few = with-read (LInf dim most) n h few
 more-read (Hamming len) n h few = with-read (Hamming len) n h few
@@ -210,7 +221,8 @@ curve-read : (c : CurveKind) → curve_in (curve_word c) ≡ Some c
 curve-read Z = refl
 curve-read Hilbert = refl
 
-alone-spelled : (asked : Asked) (words : List (List ℕ)) (a : Asked) → file_alone asked words ≡ Some a → (asked ≡ a) × ((file : List ℕ) × IsTrue (names_file file) × (words ≡ file ∷ []))
+alone-spelled : (asked : Asked) (words : List (List ℕ)) (a : Asked) → file_alone asked words ≡ Some a → (asked ≡ a)
+    × ((file : List ℕ) × IsTrue (names_file file) × (words ≡ file ∷ []))
 alone-spelled asked [] a e = absurd (none-some a e)
 alone-spelled asked (file ∷ []) a e = let h = if-some (names_file file) (Some asked) a e in (some_is h.1, (file, h.0, refl))
 alone-spelled asked (file ∷ more ∷ rest) a e = absurd (none-some a e)
@@ -245,7 +257,8 @@ make-spelled (file ∷ curve ∷ pivots ∷ cap ∷ kind ∷ parameters) a e =
     let few = positive-spelled PIVOT_LIMIT p.0 pivots p.1 in
     let room = positive-spelled MEMORY_CAP n.0 cap n.1 in
     let space = space-spelled kind parameters s.0 s.1 in
-    let words : codes "make" ∷ file ∷ curve ∷ pivots ∷ cap ∷ kind ∷ parameters ≡ codes "make" ∷ file ∷ curve_word c.0 ∷ decimal p.0 ∷ decimal n.0 ∷ kind_of s.0 ∷ parameters_of s.0 =
+    let words : codes "make" ∷ file ∷ curve ∷ pivots ∷ cap ∷ kind ∷ parameters
+        ≡ codes "make" ∷ file ∷ curve_word c.0 ∷ decimal p.0 ∷ decimal n.0 ∷ kind_of s.0 ∷ parameters_of s.0 =
     ap (λ w. codes "make" ∷ file ∷ w ∷ pivots ∷ cap ∷ kind ∷ parameters) (curve-spelled curve c.0 c.1)
     ∙ ap₂ (λ v w. codes "make" ∷ file ∷ curve_word c.0 ∷ v ∷ w ∷ kind ∷ parameters) few.0 room.0
     ∙ ap₂ (λ k ps. codes "make" ∷ file ∷ curve_word c.0 ∷ decimal p.0 ∷ decimal n.0 ∷ k ∷ ps) space.1 space.2 in
@@ -261,7 +274,8 @@ trial-spelled (file ∷ seed ∷ count ∷ []) a e =
     let n = map-some (λ n. Trial s.0 n) (positive_in MEMORY_CAP count) a s.2 in
     let one = seed-spelled seed s.0 s.1 in
     let many = positive-spelled MEMORY_CAP n.0 count n.1 in
-    subst (AreWordsFor (codes "trial" ∷ file ∷ seed ∷ count ∷ [])) n.2 (one.1, many.1, many.2, (file, named.0, ap₂ (λ v w. codes "trial" ∷ file ∷ v ∷ w ∷ []) one.0 many.0))
+    subst (AreWordsFor (codes "trial" ∷ file ∷ seed ∷ count ∷ [])) n.2 (one.1, many.1, many.2,
+        (file, named.0, ap₂ (λ v w. codes "trial" ∷ file ∷ v ∷ w ∷ []) one.0 many.0))
 trial-spelled (w ∷ x ∷ y ∷ z ∷ rest) a e = absurd (none-some a e)
 
 run-spelled : (words : List (List ℕ)) (a : Asked) → file_alone Run words ≡ Some a → AreWordsFor (codes "run" ∷ words) a
@@ -310,9 +324,12 @@ read words (Mem setup) (fit, few, inl (none, is)) =
 read words (Mem setup) (fit, few, inr is) = ap asked_of is ∙ ap (option_map Mem) (more-read setup.space setup.pivots fit few)
 read words (Make curve pivots cap space) (fit, some, few, one, room, (file, named, is)) =
     ap asked_of is ∙ named-read file _ named
-    ∙ ap (option_and_then (λ c. option_and_then (λ p. option_and_then (λ n. option_map (λ s. Make c p n s) (space_in (kind_of space) (parameters_of space))) (positive_in MEMORY_CAP (decimal cap))) (positive_in PIVOT_LIMIT (decimal pivots)))) (curve-read curve)
-    ∙ ap (option_and_then (λ p. option_and_then (λ n. option_map (λ s. Make curve p n s) (space_in (kind_of space) (parameters_of space))) (positive_in MEMORY_CAP (decimal cap)))) (positive-read PIVOT_LIMIT pivots some few (omega (arith, few)))
-    ∙ ap (option_and_then (λ n. option_map (λ s. Make curve pivots n s) (space_in (kind_of space) (parameters_of space)))) (positive-read MEMORY_CAP cap one room (omega (arith, room)))
+    ∙ ap (option_and_then (λ c. option_and_then (λ p. option_and_then (λ n. option_map (λ s. Make c p n s) (space_in (kind_of space) (parameters_of space)))
+        (positive_in MEMORY_CAP (decimal cap))) (positive_in PIVOT_LIMIT (decimal pivots)))) (curve-read curve)
+    ∙ ap (option_and_then (λ p. option_and_then (λ n. option_map (λ s. Make curve p n s) (space_in (kind_of space) (parameters_of space)))
+        (positive_in MEMORY_CAP (decimal cap)))) (positive-read PIVOT_LIMIT pivots some few (omega (arith, few)))
+    ∙ ap (option_and_then (λ n. option_map (λ s. Make curve pivots n s) (space_in (kind_of space) (parameters_of space))))
+        (positive-read MEMORY_CAP cap one room (omega (arith, room)))
     ∙ ap (option_map (λ s. Make curve pivots cap s)) (space-read space fit)
 read words Run (file, named, is) = ap asked_of is ∙ named-read file (Some Run) named
 read words Check (file, named, is) = ap asked_of is ∙ named-read file (Some Check) named

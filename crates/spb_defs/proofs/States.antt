@@ -42,13 +42,15 @@ module _ {K X : Type 0} {R : K → K → Ordering} (o : IsTotalOrder R) (k : K) 
   abbrev put_at : Ordering → K × X → List (K × X) → List (K × X)
   put_at r e es = match_ordering r ((k, v) ∷ e ∷ es) ((e.0, v) ∷ es) (e ∷ insert_entry R es k v)
 
-  above_at : (x : K) (e : K × X) (es : List (K × X)) (r : Ordering) → R x k ≡ Less → R x e.0 ≡ Less → AllByRecursion (λ y. R x y ≡ Less) (keys_of es) → AllByRecursion (λ y. R x y ≡ Less) (keys_of (insert_entry R es k v)) → AllByRecursion (λ y. R x y ≡ Less) (keys_of (put_at r e es))
+  above_at : (x : K) (e : K × X) (es : List (K × X)) (r : Ordering) → R x k ≡ Less → R x e.0 ≡ Less → AllByRecursion (λ y. R x y ≡ Less) (keys_of es)
+      → AllByRecursion (λ y. R x y ≡ Less) (keys_of (insert_entry R es k v)) → AllByRecursion (λ y. R x y ≡ Less) (keys_of (put_at r e es))
   above_at x e es Less at first all more = (at, (first, all))
   above_at x e es Equal at first all more = (first, all)
   above_at x e es Greater at first all more = (first, more)
 
   -- what is above all of the keys and the new one is above all of them together
-  above : (x : K) (es : List (K × X)) → R x k ≡ Less → AllByRecursion (λ y. R x y ≡ Less) (keys_of es) → AllByRecursion (λ y. R x y ≡ Less) (keys_of (insert_entry R es k v))
+  above : (x : K) (es : List (K × X)) → R x k ≡ Less → AllByRecursion (λ y. R x y ≡ Less) (keys_of es)
+      → AllByRecursion (λ y. R x y ≡ Less) (keys_of (insert_entry R es k v))
   above x [] at all = (at, tt)
   above x (e ∷ es) at all = above_at x e es (R k e.0) at all.0 all.1 (above x es at all.1)
 
@@ -56,7 +58,8 @@ module _ {K X : Type 0} {R : K → K → Ordering} (o : IsTotalOrder R) (k : K) 
   through z [] at all = tt
   through z (y ∷ ks) at all = (o.trans k z y at all.0, through z ks at all.1)
 
-  sorted_at : (e : K × X) (es : List (K × X)) (r : Ordering) → R k e.0 ≡ r → AllByRecursion (λ y. R e.0 y ≡ Less) (keys_of es) → IsStrictlySortedBy R (keys_of es) → IsStrictlySortedBy R (keys_of (insert_entry R es k v)) → IsStrictlySortedBy R (keys_of (put_at r e es))
+  sorted_at : (e : K × X) (es : List (K × X)) (r : Ordering) → R k e.0 ≡ r → AllByRecursion (λ y. R e.0 y ≡ Less) (keys_of es)
+      → IsStrictlySortedBy R (keys_of es) → IsStrictlySortedBy R (keys_of (insert_entry R es k v)) → IsStrictlySortedBy R (keys_of (put_at r e es))
   unfolding IsStrictlySortedBy
   sorted_at e es Less at first rise more = ((at, through e.0 (keys_of es) at first), (first, rise))
   sorted_at e es Equal at first rise more = (first, rise)
@@ -79,7 +82,8 @@ module _ {K X : Type 0} {R : K → K → Ordering} (o : IsTotalOrder R) (k : K) 
 -- ---- an entry taken out
 
 module _ {K X : Type 0} (test : K → Bool) where
-  all_cut_at : (P : K → Type 0) (b : Bool) (e : K × X) (es : List (K × X)) → P e.0 → AllByRecursion P (keys_of es) → AllByRecursion P (keys_of (remove_entry test es)) → AllByRecursion P (keys_of (cond b es (e ∷ remove_entry test es)))
+  all_cut_at : (P : K → Type 0) (b : Bool) (e : K × X) (es : List (K × X)) → P e.0 → AllByRecursion P (keys_of es)
+      → AllByRecursion P (keys_of (remove_entry test es)) → AllByRecursion P (keys_of (cond b es (e ∷ remove_entry test es)))
   all_cut_at P true e es first all less = all
   all_cut_at P false e es first all less = (first, less)
 
@@ -87,7 +91,8 @@ module _ {K X : Type 0} (test : K → Bool) where
   all_cut P [] all = all
   all_cut P (e ∷ es) all = all_cut_at P (test e.0) e es all.0 all.1 (all_cut P es all.1)
 
-  shorter_at : (b : Bool) (e : K × X) (es : List (K × X)) → length (remove_entry test es) ≤ length es → length (cond b es (e ∷ remove_entry test es)) ≤ length es + 1
+  shorter_at : (b : Bool) (e : K × X) (es : List (K × X)) → length (remove_entry test es) ≤ length es
+      → length (cond b es (e ∷ remove_entry test es)) ≤ length es + 1
   shorter_at true e es less = omega arith
   shorter_at false e es less = omega (arith, less)
 
@@ -96,7 +101,8 @@ module _ {K X : Type 0} (test : K → Bool) where
   shorter (e ∷ es) = let less = shorter_at (test e.0) e es (shorter es) in omega (arith, less)
 
 module _ {K X : Type 0} (R : K → K → Ordering) (test : K → Bool) where
-  cut_at : (b : Bool) (e : K × X) (es : List (K × X)) → AllByRecursion (λ y. R e.0 y ≡ Less) (keys_of es) → IsStrictlySortedBy R (keys_of es) → IsStrictlySortedBy R (keys_of (remove_entry test es)) → IsStrictlySortedBy R (keys_of (cond b es (e ∷ remove_entry test es)))
+  cut_at : (b : Bool) (e : K × X) (es : List (K × X)) → AllByRecursion (λ y. R e.0 y ≡ Less) (keys_of es) → IsStrictlySortedBy R (keys_of es)
+      → IsStrictlySortedBy R (keys_of (remove_entry test es)) → IsStrictlySortedBy R (keys_of (cond b es (e ∷ remove_entry test es)))
   unfolding IsStrictlySortedBy
   cut_at true e es first rise less = rise
   cut_at false e es first rise less = (all_cut test (λ y. R e.0 y ≡ Less) es first, less)
@@ -109,7 +115,8 @@ module _ {K X : Type 0} (R : K → K → Ordering) (test : K → Bool) where
 -- ---- entries that all have a property
 
 module _ {K X : Type 0} (R : K → K → Ordering) (k : K) (v : X) (P : K × X → Type 0) (new : P (k, v)) (same : (e : K × X) → P e → P (e.0, v)) where
-  all_put_at : (r : Ordering) (e : K × X) (es : List (K × X)) → P e → All P es → All P (insert_entry R es k v) → All P (match_ordering r ((k, v) ∷ e ∷ es) ((e.0, v) ∷ es) (e ∷ insert_entry R es k v))
+  all_put_at : (r : Ordering) (e : K × X) (es : List (K × X)) → P e → All P es → All P (insert_entry R es k v)
+      → All P (match_ordering r ((k, v) ∷ e ∷ es) ((e.0, v) ∷ es) (e ∷ insert_entry R es k v))
   all_put_at Less e es first all more = All-cons P (k, v) (e ∷ es) new (All-cons P e es first all)
   all_put_at Equal e es first all more = All-cons P (e.0, v) es (same e first) all
   all_put_at Greater e es first all more = All-cons P e (insert_entry R es k v) first more
@@ -149,7 +156,8 @@ in_memory space wanted fit few = record {
   in_file = tt;
 }
 
-pub in_file : (space : Space) (curve : CurveKind) (pivots : List (List ℕ)) (cap : ℕ) → IsTrue (fits space) → All (IsValid space) pivots → length pivots ≤ PIVOT_LIMIT → IsState (empty_in_file space curve pivots cap)
+pub in_file : (space : Space) (curve : CurveKind) (pivots : List (List ℕ)) (cap : ℕ) → IsTrue (fits space) → All (IsValid space) pivots
+    → length pivots ≤ PIVOT_LIMIT → IsState (empty_in_file space curve pivots cap)
 unfolding IsStrictlySortedBy
 in_file space curve pivots cap fit valid few = record {
   in_range = fit;
@@ -168,7 +176,8 @@ in_file space curve pivots cap fit valid few = record {
 -- ---- samples
 
 -- the samples are closed
-closed_pivots : (s : State) (kept : Option (List (List ℕ))) → AreSamples s.space kept → All (IsValid s.space) s.pivots → All (IsValid s.space) (pivots_after_sampling s kept)
+closed_pivots : (s : State) (kept : Option (List (List ℕ))) → AreSamples s.space kept → All (IsValid s.space) s.pivots
+    → All (IsValid s.space) (pivots_after_sampling s kept)
 closed_pivots s None samples pivots = pivots
 closed_pivots s (Some kept) samples pivots =
     All-chosen_samples (IsValid s.space) (dist s.space) kept (min s.wanted (length kept)) (min-le_right s.wanted (length kept)) samples.0
@@ -180,7 +189,8 @@ closed_few s (Some kept) few =
     let low = min-le_left s.wanted (length kept) in
     omega arith
 
-closed_in_file : (s : State) (curve : Option CurveKind) (kept : Option (List (List ℕ))) → IfSome curve (λ c. (kept ≡ None) × (s.wanted ≡ length s.pivots)) → IfSome curve (λ c. (◌≡◌ {A = Option (List (List ℕ))} None None) × (s.wanted ≡ length (pivots_after_sampling s kept)))
+closed_in_file : (s : State) (curve : Option CurveKind) (kept : Option (List (List ℕ))) → IfSome curve (λ c. (kept ≡ None) × (s.wanted ≡ length s.pivots))
+    → IfSome curve (λ c. (◌≡◌ {A = Option (List (List ℕ))} None None) × (s.wanted ≡ length (pivots_after_sampling s kept)))
 closed_in_file s None kept h = tt
 closed_in_file s (Some curve) None h = (refl, h.1)
 closed_in_file s (Some curve) (Some kept) h = absurd (let e = h.0 in cc)
@@ -201,14 +211,16 @@ state_closed s is = record {
 }
 
 -- one more sample
-sampled_at : (space : Space) (kept : List (List ℕ)) (object : List ℕ) (full : Bool) → nat_le SAMPLE_LIMIT (length kept) ≡ full → IsValid space object → AreSamples space (Some kept) → AreSamples space (if full then Some kept else Some (kept ++ object ∷ []))
+sampled_at : (space : Space) (kept : List (List ℕ)) (object : List ℕ) (full : Bool) → nat_le SAMPLE_LIMIT (length kept) ≡ full → IsValid space object
+    → AreSamples space (Some kept) → AreSamples space (if full then Some kept else Some (kept ++ object ∷ []))
 sampled_at space kept object true is valid samples = samples
 sampled_at space kept object false is valid samples =
     let long : length (kept ++ object ∷ []) ≡ length kept + 1 = length_push kept object in
     let below : length kept + 1 ≤ SAMPLE_LIMIT = grind (arith, nat_tests, is) in
     (All-append (IsValid space) kept (object ∷ []) samples.0 (All-cons (IsValid space) object [] valid (All-nil (IsValid space))), omega arith)
 
-sampled : (space : Space) (samples : Option (List (List ℕ))) (object : List ℕ) → IsValid space object → AreSamples space samples → AreSamples space (with_sample samples object)
+sampled : (space : Space) (samples : Option (List (List ℕ))) (object : List ℕ) → IsValid space object → AreSamples space samples
+    → AreSamples space (with_sample samples object)
 sampled space None object valid samples = tt
 sampled space (Some kept) object valid samples = sampled_at space kept object (nat_le SAMPLE_LIMIT (length kept)) refl valid samples
 
@@ -221,7 +233,8 @@ module _ (P : Type 0) where
   still None object p = tt
   still (Some kept) object p = still_at (nat_le SAMPLE_LIMIT (length kept)) kept (kept ++ object ∷ []) p
 
-  still_in_file : (curve : Option CurveKind) (samples : Option (List (List ℕ))) (object : List ℕ) → IfSome curve (λ c. (samples ≡ None) × P) → IfSome curve (λ c. (with_sample samples object ≡ None) × P)
+  still_in_file : (curve : Option CurveKind) (samples : Option (List (List ℕ))) (object : List ℕ) → IfSome curve (λ c. (samples ≡ None) × P)
+      → IfSome curve (λ c. (with_sample samples object ≡ None) × P)
   still_in_file None samples object h = tt
   still_in_file (Some curve) None object h = (refl, h.1)
   still_in_file (Some curve) (Some kept) object h = absurd (let e = h.0 in cc)
@@ -244,7 +257,8 @@ state_sampled s object valid is = record {
 -- ---- members
 
 -- other members of a state whose samples are closed
-with_members : (s : State) (members : Members) → IsState s → s.samples ≡ None → IsStrictlySortedBy key_cmp (keys_of members) → length members ≤ s.cap → All (λ member. IsMemberKey member.0) members → All (λ member. IsValid s.space member.1) members → IsState (record s { members = members })
+with_members : (s : State) (members : Members) → IsState s → s.samples ≡ None → IsStrictlySortedBy key_cmp (keys_of members) → length members ≤ s.cap
+    → All (λ member. IsMemberKey member.0) members → All (λ member. IsValid s.space member.1) members → IsState (record s { members = members })
 with_members s members is none order room keys objects = record {
   in_range = is.in_range;
   order = order;
@@ -263,7 +277,8 @@ with_members s members is none order room keys objects = record {
     no_samples None e P = tt
     no_samples (Some kept) e P = absurd (cc)
 
-by_add : (there full : Bool) (s : State) (c id : ℕ) (object : List ℕ) → is_full s ≡ full → s.samples ≡ None → (c < 4) × (id < 2 ^ 32) × IsValid s.space object → IsState s → IsState (if there then s else (if full then s else record s { members = with_object s.members c id object }))
+by_add : (there full : Bool) (s : State) (c id : ℕ) (object : List ℕ) → is_full s ≡ full → s.samples ≡ None → (c < 4) × (id < 2 ^ 32) × IsValid s.space object
+    → IsState s → IsState (if there then s else (if full then s else record s { members = with_object s.members c id object }))
 by_add true full s c id object at none proper is = is
 by_add false true s c id object at none proper is = is
 by_add false false s c id object at none proper is =
@@ -275,7 +290,8 @@ by_add false false s c id object at none proper is =
     (all_put key_cmp (c, id) object (λ member. IsMemberKey member.0) (proper.0, proper.1) (λ e p. p) s.members is.keys)
     (all_put key_cmp (c, id) object (λ member. IsValid s.space member.1) proper.2 (λ e p. proper.2) s.members is.objects)
 
-by_drop : (there : Bool) (s : State) (c id : ℕ) → s.samples ≡ None → IsState s → IsState (if there then record s { members = without_object s.members c id } else s)
+by_drop : (there : Bool) (s : State) (c id : ℕ) → s.samples ≡ None → IsState s
+    → IsState (if there then record s { members = without_object s.members c id } else s)
 by_drop true s c id none is =
     let test = is_at (key_cmp (c, id)) in
     let less = shorter test s.members in
@@ -292,7 +308,8 @@ by_drop false s c id none is = is
 by_command : (s : State) (c : Command) → IsWellFormed s.space c → IsState s → IsState (state_after s c)
 unfolding changed_state
 by_command s (command.Sample object) proper is = state_sampled s object proper is
-by_command s (command.Add c id object) proper is = let t = with_samples_closed s in by_add (is_some (object_at t c id)) (is_full t) t c id object refl refl proper (state_closed s is)
+by_command s (command.Add c id object) proper is = let t = with_samples_closed s in
+    by_add (is_some (object_at t c id)) (is_full t) t c id object refl refl proper (state_closed s is)
 by_command s (command.Discard c id) proper is = let t = with_samples_closed s in by_drop (is_some (object_at t c id)) t c id refl (state_closed s is)
 by_command s (command.Get c id) proper is = state_closed s is
 by_command s (command.Count c) proper is = state_closed s is

@@ -66,7 +66,8 @@ is_change s line.End = false
 -- the states after the changes among the lines
 abbrev pub changed_states : State → List Line → List State
 changed_states s [] = []
-changed_states s (line ∷ lines) = if is_change s line then next_state s line ∷ changed_states (next_state s line) lines else changed_states (next_state s line) lines
+changed_states s (line ∷ lines) = if is_change s line then next_state s line ∷ changed_states (next_state s line) lines else changed_states (next_state s line)
+    lines
 
 -- the first state, and the one after each change of the script
 abbrev pub changes : State → List ℕ → List State

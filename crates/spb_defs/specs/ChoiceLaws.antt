@@ -30,7 +30,8 @@ first_place-within [] some = omega arith
 first_place-within (x ∷ []) some = grind (arith, nat_tests)
 first_place-within (x ∷ y ∷ ys) some = either (first_place-within (y ∷ ys) (omega arith)) (x == greatest (x ∷ y ∷ ys)) refl
   where
-    either : first_place (greatest (y ∷ ys)) (y ∷ ys) < length (y ∷ ys) → (b : Bool) → (x == greatest (x ∷ y ∷ ys)) ≡ b → first_place (greatest (x ∷ y ∷ ys)) (x ∷ y ∷ ys) < length (x ∷ y ∷ ys)
+    either : first_place (greatest (y ∷ ys)) (y ∷ ys) < length (y ∷ ys) → (b : Bool) → (x == greatest (x ∷ y ∷ ys)) ≡ b
+        → first_place (greatest (x ∷ y ∷ ys)) (x ∷ y ∷ ys) < length (x ∷ y ∷ ys)
     either behind true is =
         let same : x ≡ greatest (x ∷ y ∷ ys) = grind (arith, nat_tests) in
         let first = first_place-at _ x (y ∷ ys) same in
@@ -45,7 +46,8 @@ pub first_place-holds : (xs : List ℕ) → get_or xs (first_place (greatest xs)
 first_place-holds [] = refl
 first_place-holds (x ∷ xs) = either (first_place-holds xs) (x == greatest (x ∷ xs)) refl
   where
-    either : get_or xs (first_place (greatest xs) xs) 0 ≡ greatest xs → (b : Bool) → (x == greatest (x ∷ xs)) ≡ b → get_or (x ∷ xs) (first_place (greatest (x ∷ xs)) (x ∷ xs)) 0 ≡ greatest (x ∷ xs)
+    either : get_or xs (first_place (greatest xs) xs) 0 ≡ greatest xs → (b : Bool) → (x == greatest (x ∷ xs)) ≡ b
+        → get_or (x ∷ xs) (first_place (greatest (x ∷ xs)) (x ∷ xs)) 0 ≡ greatest (x ∷ xs)
     either rest true is =
         let same : x ≡ greatest (x ∷ xs) = grind (arith, nat_tests) in
         ap (λ k. get_or (x ∷ xs) k 0) (first_place-at _ x xs same) ∙ same
@@ -84,7 +86,8 @@ next-within dist samples chosen some =
 none-within : (m : ℕ) → All (λ (place : ℕ). place < m) []
 none-within m k d below = absurd (omega arith)
 
-pub chosen-within : (dist : Distance) (samples : List Object) (n : ℕ) → n ≤ length samples → All (λ (place : ℕ). place < length samples) (chosen_places dist samples n)
+pub chosen-within : (dist : Distance) (samples : List Object) (n : ℕ) → n ≤ length samples
+    → All (λ (place : ℕ). place < length samples) (chosen_places dist samples n)
 unfolding chosen_places
 chosen-within dist samples zero enough = none-within (length samples)
 chosen-within dist samples (suc n) enough =
@@ -97,7 +100,8 @@ chosen-within dist samples (suc n) enough =
 pub length-chosen_samples : (dist : Distance) (samples : List Object) (n : ℕ) → length (chosen_samples dist samples n) ≡ n
 length-chosen_samples dist samples n = length-map (chosen_places dist samples n) (sample_at samples) ∙ chosen-length dist samples n
 
-pub All-chosen_samples : (P : List ℕ → Type 0) (dist : Distance) (samples : List Object) (n : ℕ) → n ≤ length samples → All P samples → All P (chosen_samples dist samples n)
+pub All-chosen_samples : (P : List ℕ → Type 0) (dist : Distance) (samples : List Object) (n : ℕ) → n ≤ length samples → All P samples
+    → All P (chosen_samples dist samples n)
 All-chosen_samples P dist samples n enough all =
     let places = chosen_places dist samples n in
     let within : All (λ (place : ℕ). place < length samples) places = chosen-within dist samples n enough in

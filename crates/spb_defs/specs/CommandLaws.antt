@@ -31,27 +31,31 @@ module _ {A : Type 0} where
   one_read (Err failed) make command e = absurd (cc)
 
 module _ {A B : Type 0} where
-  two_read : (p : Result A What) (q : Result B What) (make : A → B → Command) (command : Command) → (p >>= (λ x. q >>= (λ y. Ok (make x y)))) ≡ Ok command → (x : A) × (y : B) × (p ≡ Ok x) × (q ≡ Ok y) × (make x y ≡ command)
+  two_read : (p : Result A What) (q : Result B What) (make : A → B → Command) (command : Command) → (p >>= (λ x. q >>= (λ y. Ok (make x y)))) ≡ Ok command
+      → (x : A) × (y : B) × (p ≡ Ok x) × (q ≡ Ok y) × (make x y ≡ command)
   two_read (Ok x) (Ok y) make command e = (x, y, refl, refl, cc)
   two_read (Ok x) (Err failed) make command e = absurd (cc)
   two_read (Err failed) q make command e = absurd (cc)
 
 module _ {A B C : Type 0} where
-  three_read : (p : Result A What) (q : Result B What) (r : Result C What) (make : A → B → C → Command) (command : Command) → (p >>= (λ x. q >>= (λ y. r >>= (λ z. Ok (make x y z))))) ≡ Ok command
+  three_read : (p : Result A What) (q : Result B What) (r : Result C What) (make : A → B → C → Command) (command : Command)
+      → (p >>= (λ x. q >>= (λ y. r >>= (λ z. Ok (make x y z))))) ≡ Ok command
       → (x : A) × (y : B) × (z : C) × (p ≡ Ok x) × (q ≡ Ok y) × (r ≡ Ok z) × (make x y z ≡ command)
   three_read (Ok x) (Ok y) (Ok z) make command e = (x, y, z, refl, refl, refl, cc)
   three_read (Ok x) (Ok y) (Err failed) make command e = absurd (cc)
   three_read (Ok x) (Err failed) r make command e = absurd (cc)
   three_read (Err failed) q r make command e = absurd (cc)
 
-  read_three : (p : Result A What) (q : Result B What) (r : Result C What) (make : A → B → C → Command) (x : A) (y : B) (z : C) → p ≡ Ok x → q ≡ Ok y → r ≡ Ok z → (p >>= (λ x. q >>= (λ y. r >>= (λ z. Ok (make x y z))))) ≡ Ok (make x y z)
+  read_three : (p : Result A What) (q : Result B What) (r : Result C What) (make : A → B → C → Command) (x : A) (y : B) (z : C) → p ≡ Ok x → q ≡ Ok y
+      → r ≡ Ok z → (p >>= (λ x. q >>= (λ y. r >>= (λ z. Ok (make x y z))))) ≡ Ok (make x y z)
   read_three p q r make x y z e f g =
       ap (λ (t : Result A What). t >>= (λ x. q >>= (λ y. r >>= (λ z. Ok (make x y z))))) e
       ∙ ap (λ (t : Result B What). t >>= (λ y. r >>= (λ z. Ok (make x y z)))) f
       ∙ ap (λ (t : Result C What). t >>= (λ z. Ok (make x y z))) g
 
 module _ {A B : Type 0} where
-  read_two : (p : Result A What) (q : Result B What) (make : A → B → Command) (x : A) (y : B) → p ≡ Ok x → q ≡ Ok y → (p >>= (λ x. q >>= (λ y. Ok (make x y)))) ≡ Ok (make x y)
+  read_two : (p : Result A What) (q : Result B What) (make : A → B → Command) (x : A) (y : B) → p ≡ Ok x → q ≡ Ok y
+      → (p >>= (λ x. q >>= (λ y. Ok (make x y)))) ≡ Ok (make x y)
   read_two p q make x y e f =
       ap (λ (t : Result A What). t >>= (λ x. q >>= (λ y. Ok (make x y)))) e
       ∙ ap (λ (t : Result B What). t >>= (λ y. Ok (make x y))) f
@@ -67,13 +71,16 @@ module _ {A : Type 0} where
 -- ---- one word
 
 collection_read : (word : List ℕ) (c : ℕ) → collection_in word ≡ Ok c → (word ≡ decimal c) × (c < 4)
-collection_read word c e = let read = number_within-decimal 3 c word (there (number_within 3 word) what.Collection c e) in let l = read.1 in (read.0, omega (arith, l))
+collection_read word c e = let read = number_within-decimal 3 c word (there (number_within 3 word) what.Collection c e) in let l = read.1 in
+    (read.0, omega (arith, l))
 
 id_read : (word : List ℕ) (n : ℕ) → id_in word ≡ Ok n → (word ≡ decimal n) × (n < 2 ^ 32)
-id_read word n e = let read = number_within-decimal 4294967295 n word (there (number_within 4294967295 word) what.Id n e) in let l = read.1 in (read.0, omega (arith, l))
+id_read word n e = let read = number_within-decimal 4294967295 n word (there (number_within 4294967295 word) what.Id n e) in let l = read.1 in
+    (read.0, omega (arith, l))
 
 radius_read : (word : List ℕ) (n : ℕ) → radius_in word ≡ Ok n → (word ≡ decimal n) × (n < 2 ^ 32)
-radius_read word n e = let read = number_within-decimal 4294967295 n word (there (number_within 4294967295 word) what.Number n e) in let l = read.1 in (read.0, omega (arith, l))
+radius_read word n e = let read = number_within-decimal 4294967295 n word (there (number_within 4294967295 word) what.Number n e) in let l = read.1 in
+    (read.0, omega (arith, l))
 
 some_at_least : (low m n : ℕ) (b : Bool) → nat_le low m ≡ b → ◌≡◌ {A = Option ℕ} (cond b (Some m) None) (Some n) → (m ≡ n) × (low ≤ n)
 some_at_least low m n true is e = let same : m ≡ n = cc in (same, grind (arith, nat_tests, same))
@@ -88,7 +95,8 @@ ranks_read word k e =
     let some = at_least_read 1 (number_within 65536 word) k (there (at_least 1 (number_within 65536 word)) what.Number k e) in
     let read = number_within-decimal 65536 k word some.0 in (read.0, some.1, read.1)
 
-object_read : (space : Space) (word object : List ℕ) → IsTrue (fits space) → object_in space word ≡ Ok object → (word ≡ text_of space object) × IsValid space object
+object_read : (space : Space) (word object : List ℕ) → IsTrue (fits space) → object_in space word ≡ Ok object → (word ≡ text_of space object)
+    × IsValid space object
 object_read space word object fit e = let read = read_text space word object fit (there (object_of space word) what.Object object e) in (read.1, read.0)
 
 collection_again : (c : ℕ) → c < 4 → collection_in (decimal c) ≡ Ok c
@@ -128,37 +136,44 @@ Means space words command = IsWellFormed space command × (words ≡ words_of sp
 is_name : (name word : List ℕ) → bytes_eq name word ≡ true → name ≡ word
 is_name name word same = (bytes_eq-Decides name word).0 same
 
-sample_means : (space : Space) (name first : List ℕ) (command : Command) → IsTrue (fits space) → bytes_eq name (codes "sample") ≡ true → sample_in space first ≡ Ok command → Means space (name ∷ first ∷ []) command
+sample_means : (space : Space) (name first : List ℕ) (command : Command) → IsTrue (fits space) → bytes_eq name (codes "sample") ≡ true
+    → sample_in space first ≡ Ok command → Means space (name ∷ first ∷ []) command
 unfolding sample_in
 sample_means space name first command fit same e =
     let parts = one_read (object_in space first) Sample command e in
     let o = object_read space first parts.0 fit parts.1 in
     subst (Means space (name ∷ first ∷ [])) parts.2 (o.1, two_same name first (codes "sample") (text_of space parts.0) (is_name name (codes "sample") same) o.0)
 
-count_means : (space : Space) (name first : List ℕ) (command : Command) → bytes_eq name (codes "count") ≡ true → count_in first ≡ Ok command → Means space (name ∷ first ∷ []) command
+count_means : (space : Space) (name first : List ℕ) (command : Command) → bytes_eq name (codes "count") ≡ true → count_in first ≡ Ok command
+    → Means space (name ∷ first ∷ []) command
 unfolding count_in
 count_means space name first command same e =
     let parts = one_read (collection_in first) Count command e in
     let c = collection_read first parts.0 parts.1 in
     subst (Means space (name ∷ first ∷ [])) parts.2 (c.1, two_same name first (codes "count") (decimal parts.0) (is_name name (codes "count") same) c.0)
 
-drop_means : (space : Space) (name first second : List ℕ) (command : Command) → bytes_eq name (codes "drop") ≡ true → drop_in first second ≡ Ok command → Means space (name ∷ first ∷ second ∷ []) command
+drop_means : (space : Space) (name first second : List ℕ) (command : Command) → bytes_eq name (codes "drop") ≡ true → drop_in first second ≡ Ok command
+    → Means space (name ∷ first ∷ second ∷ []) command
 unfolding drop_in
 drop_means space name first second command same e =
     let parts = two_read (collection_in first) (id_in second) Discard command e in
     let c = collection_read first parts.0 parts.2 in
     let i = id_read second parts.1 parts.3 in
-    subst (Means space (name ∷ first ∷ second ∷ [])) parts.4 ((c.1, i.1), three_same name first second (codes "drop") (decimal parts.0) (decimal parts.1) (is_name name (codes "drop") same) c.0 i.0)
+    subst (Means space (name ∷ first ∷ second ∷ [])) parts.4 ((c.1, i.1),
+        three_same name first second (codes "drop") (decimal parts.0) (decimal parts.1) (is_name name (codes "drop") same) c.0 i.0)
 
-get_means : (space : Space) (name first second : List ℕ) (command : Command) → bytes_eq name (codes "get") ≡ true → get_in first second ≡ Ok command → Means space (name ∷ first ∷ second ∷ []) command
+get_means : (space : Space) (name first second : List ℕ) (command : Command) → bytes_eq name (codes "get") ≡ true → get_in first second ≡ Ok command
+    → Means space (name ∷ first ∷ second ∷ []) command
 unfolding get_in
 get_means space name first second command same e =
     let parts = two_read (collection_in first) (id_in second) Get command e in
     let c = collection_read first parts.0 parts.2 in
     let i = id_read second parts.1 parts.3 in
-    subst (Means space (name ∷ first ∷ second ∷ [])) parts.4 ((c.1, i.1), three_same name first second (codes "get") (decimal parts.0) (decimal parts.1) (is_name name (codes "get") same) c.0 i.0)
+    subst (Means space (name ∷ first ∷ second ∷ [])) parts.4 ((c.1, i.1),
+        three_same name first second (codes "get") (decimal parts.0) (decimal parts.1) (is_name name (codes "get") same) c.0 i.0)
 
-add_means : (space : Space) (name first second third : List ℕ) (command : Command) → IsTrue (fits space) → bytes_eq name (codes "add") ≡ true → add_in space first second third ≡ Ok command → Means space (name ∷ first ∷ second ∷ third ∷ []) command
+add_means : (space : Space) (name first second third : List ℕ) (command : Command) → IsTrue (fits space) → bytes_eq name (codes "add") ≡ true
+    → add_in space first second third ≡ Ok command → Means space (name ∷ first ∷ second ∷ third ∷ []) command
 unfolding add_in
 add_means space name first second third command fit same e =
     let parts = three_read (collection_in first) (id_in second) (object_in space third) Add command e in
@@ -170,7 +185,8 @@ add_means space name first second third command fit same e =
       four_same name first second third (codes "add") (decimal parts.0) (decimal parts.1) (text_of space parts.2) (is_name name (codes "add") same) c.0 i.0 o.0,
     )
 
-range_means : (space : Space) (name first second third : List ℕ) (command : Command) → IsTrue (fits space) → bytes_eq name (codes "range") ≡ true → range_in space first second third ≡ Ok command → Means space (name ∷ first ∷ second ∷ third ∷ []) command
+range_means : (space : Space) (name first second third : List ℕ) (command : Command) → IsTrue (fits space) → bytes_eq name (codes "range") ≡ true
+    → range_in space first second third ≡ Ok command → Means space (name ∷ first ∷ second ∷ third ∷ []) command
 unfolding range_in
 range_means space name first second third command fit same e =
     let parts = three_read (collection_in first) (radius_in second) (object_in space third) Range command e in
@@ -179,10 +195,12 @@ range_means space name first second third command fit same e =
     let o = object_read space third parts.2 fit parts.5 in
     subst (Means space (name ∷ first ∷ second ∷ third ∷ [])) parts.6 (
       (c.1, i.1, o.1),
-      four_same name first second third (codes "range") (decimal parts.0) (decimal parts.1) (text_of space parts.2) (is_name name (codes "range") same) c.0 i.0 o.0,
+      four_same name first second third (codes "range") (decimal parts.0) (decimal parts.1) (text_of space parts.2) (is_name name (codes "range") same)
+          c.0 i.0 o.0,
     )
 
-near_means : (space : Space) (name first second third : List ℕ) (command : Command) → IsTrue (fits space) → bytes_eq name (codes "near") ≡ true → near_in space first second third ≡ Ok command → Means space (name ∷ first ∷ second ∷ third ∷ []) command
+near_means : (space : Space) (name first second third : List ℕ) (command : Command) → IsTrue (fits space) → bytes_eq name (codes "near") ≡ true
+    → near_in space first second third ≡ Ok command → Means space (name ∷ first ∷ second ∷ third ∷ []) command
 unfolding near_in
 near_means space name first second third command fit same e =
     let parts = three_read (collection_in first) (ranks_in second) (object_in space third) Near command e in
@@ -191,10 +209,12 @@ near_means space name first second third command fit same e =
     let o = object_read space third parts.2 fit parts.5 in
     subst (Means space (name ∷ first ∷ second ∷ third ∷ [])) parts.6 (
       (c.1, (i.1, i.2), o.1),
-      four_same name first second third (codes "near") (decimal parts.0) (decimal parts.1) (text_of space parts.2) (is_name name (codes "near") same) c.0 i.0 o.0,
+      four_same name first second third (codes "near") (decimal parts.0) (decimal parts.1) (text_of space parts.2) (is_name name (codes "near") same)
+          c.0 i.0 o.0,
     )
 
-join_means : (space : Space) (name first second third : List ℕ) (command : Command) → bytes_eq name (codes "join") ≡ true → join_in first second third ≡ Ok command → Means space (name ∷ first ∷ second ∷ third ∷ []) command
+join_means : (space : Space) (name first second third : List ℕ) (command : Command) → bytes_eq name (codes "join") ≡ true
+    → join_in first second third ≡ Ok command → Means space (name ∷ first ∷ second ∷ third ∷ []) command
 unfolding join_in
 join_means space name first second third command same e =
     let parts = three_read (collection_in first) (collection_in second) (radius_in third) Join command e in
@@ -208,7 +228,8 @@ join_means space name first second third command same e =
 
 -- a choice by names, of which one holds
 module _ (P : Command → Type 0) (command : Command) where
-  by_name : (p : Bool) (x rest : Result Command What) → cond p x rest ≡ Ok command → (p ≡ true → x ≡ Ok command → P command) → (rest ≡ Ok command → P command) → P command
+  by_name : (p : Bool) (x rest : Result Command What) → cond p x rest ≡ Ok command → (p ≡ true → x ≡ Ok command → P command) → (rest ≡ Ok command → P command)
+      → P command
   by_name true x rest e named others = named refl e
   by_name false x rest e named others = others e
 
@@ -222,24 +243,31 @@ words_mean space (name ∷ first ∷ []) command fit e =
     let P : Command → Type 0 = Means space (name ∷ first ∷ []) in
     let count : Result Command What = cond (bytes_eq name (codes "count")) (count_in first) (Err what.Command) in
     by_name P command (bytes_eq name (codes "sample")) (sample_in space first) count e (λ same e. sample_means space name first command fit same e) (λ e.
-    by_name P command (bytes_eq name (codes "count")) (count_in first) (Err what.Command) e (λ same e. count_means space name first command same e) (no_command (P command) command))
+    by_name P command (bytes_eq name (codes "count")) (count_in first) (Err what.Command) e (λ same e. count_means space name first command same e)
+        (no_command (P command) command))
 words_mean space (name ∷ first ∷ second ∷ []) command fit e =
     let P : Command → Type 0 = Means space (name ∷ first ∷ second ∷ []) in
     let get : Result Command What = cond (bytes_eq name (codes "get")) (get_in first second) (Err what.Command) in
     by_name P command (bytes_eq name (codes "drop")) (drop_in first second) get e (λ same e. drop_means space name first second command same e) (λ e.
-    by_name P command (bytes_eq name (codes "get")) (get_in first second) (Err what.Command) e (λ same e. get_means space name first second command same e) (no_command (P command) command))
+    by_name P command (bytes_eq name (codes "get")) (get_in first second) (Err what.Command) e (λ same e. get_means space name first second command same e)
+        (no_command (P command) command))
 words_mean space (name ∷ first ∷ second ∷ third ∷ []) command fit e =
     let P : Command → Type 0 = Means space (name ∷ first ∷ second ∷ third ∷ []) in
     let join : Result Command What = cond (bytes_eq name (codes "join")) (join_in first second third) (Err what.Command) in
     let near : Result Command What = cond (bytes_eq name (codes "near")) (near_in space first second third) join in
     let range : Result Command What = cond (bytes_eq name (codes "range")) (range_in space first second third) near in
-    by_name P command (bytes_eq name (codes "add")) (add_in space first second third) range e (λ same e. add_means space name first second third command fit same e) (λ e.
-    by_name P command (bytes_eq name (codes "range")) (range_in space first second third) near e (λ same e. range_means space name first second third command fit same e) (λ e.
-    by_name P command (bytes_eq name (codes "near")) (near_in space first second third) join e (λ same e. near_means space name first second third command fit same e) (λ e.
-    by_name P command (bytes_eq name (codes "join")) (join_in first second third) (Err what.Command) e (λ same e. join_means space name first second third command same e) (no_command (P command) command))))
+    by_name P command (bytes_eq name (codes "add")) (add_in space first second third) range e
+        (λ same e. add_means space name first second third command fit same e) (λ e.
+    by_name P command (bytes_eq name (codes "range")) (range_in space first second third) near e
+        (λ same e. range_means space name first second third command fit same e) (λ e.
+    by_name P command (bytes_eq name (codes "near")) (near_in space first second third) join e
+        (λ same e. near_means space name first second third command fit same e) (λ e.
+    by_name P command (bytes_eq name (codes "join")) (join_in first second third) (Err what.Command) e
+        (λ same e. join_means space name first second third command same e) (no_command (P command) command))))
 words_mean space (a ∷ b ∷ c ∷ d ∷ f ∷ rest) command fit e = absurd (cc)
 
-pub read_line : (space : Space) (line : List ℕ) (command : Command) → IsTrue (fits space) → command_of space line ≡ Ok command → IsWellFormed space command × (line ≡ command_text space command)
+pub read_line : (space : Space) (line : List ℕ) (command : Command) → IsTrue (fits space) → command_of space line ≡ Ok command → IsWellFormed space command
+    × (line ≡ command_text space command)
 unfolding command_of
 read_line space line command fit e =
     let means = words_mean space (slice_split (λ b. b == 32) line) command fit e in
@@ -259,21 +287,26 @@ command_again : (space : Space) (command : Command) → IsTrue (fits space) → 
 unfolding sample_in add_in drop_in get_in count_in range_in near_in join_in
 command_again space (Sample object) fit p = read_one (object_in space (text_of space object)) Sample object (object_again space object fit p)
 command_again space (Add c id object) fit p =
-    read_three (collection_in (decimal c)) (id_in (decimal id)) (object_in space (text_of space object)) Add c id object (collection_again c p.0) (id_again id p.1) (object_again space object fit p.2)
+    read_three (collection_in (decimal c)) (id_in (decimal id)) (object_in space (text_of space object)) Add c id object (collection_again c p.0)
+        (id_again id p.1) (object_again space object fit p.2)
 command_again space (Discard c id) fit p = read_two (collection_in (decimal c)) (id_in (decimal id)) Discard c id (collection_again c p.0) (id_again id p.1)
 command_again space (Get c id) fit p = read_two (collection_in (decimal c)) (id_in (decimal id)) Get c id (collection_again c p.0) (id_again id p.1)
 command_again space (Count c) fit p = read_one (collection_in (decimal c)) Count c (collection_again c p)
 command_again space (Range c r object) fit p =
-    read_three (collection_in (decimal c)) (radius_in (decimal r)) (object_in space (text_of space object)) Range c r object (collection_again c p.0) (radius_again r p.1) (object_again space object fit p.2)
+    read_three (collection_in (decimal c)) (radius_in (decimal r)) (object_in space (text_of space object)) Range c r object (collection_again c p.0)
+        (radius_again r p.1) (object_again space object fit p.2)
 command_again space (Near c k object) fit p =
-    read_three (collection_in (decimal c)) (ranks_in (decimal k)) (object_in space (text_of space object)) Near c k object (collection_again c p.0) (ranks_again k p.1.0 p.1.1) (object_again space object fit p.2)
+    read_three (collection_in (decimal c)) (ranks_in (decimal k)) (object_in space (text_of space object)) Near c k object (collection_again c p.0)
+        (ranks_again k p.1.0 p.1.1) (object_again space object fit p.2)
 command_again space (Join c d r) fit p =
-    read_three (collection_in (decimal c)) (collection_in (decimal d)) (radius_in (decimal r)) Join c d r (collection_again c p.0) (collection_again d p.1) (radius_again r p.2)
+    read_three (collection_in (decimal c)) (collection_in (decimal d)) (radius_in (decimal r)) Join c d r (collection_again c p.0) (collection_again d p.1)
+        (radius_again r p.2)
 
 free_collection : (c : ℕ) → c < 4 → IsFree 32 (decimal c)
 free_collection c low = free_number c (omega (arith, low))
 
-split_again : (space : Space) (command : Command) → IsTrue (fits space) → IsWellFormed space command → slice_split (λ b. b == 32) (command_text space command) ≡ words_of space command
+split_again : (space : Space) (command : Command) → IsTrue (fits space) → IsWellFormed space command
+    → slice_split (λ b. b == 32) (command_text space command) ≡ words_of space command
 split_again space (Sample object) fit p =
     split_joined 32 (words_of space (Sample object)) (omega arith)
     (free_word (codes "sample") (refl, (refl, (refl, (refl, (refl, (refl, tt)))))), (IsFree-text_of space object fit p, tt))
@@ -291,15 +324,18 @@ split_again space (Count c) fit p =
     (free_word (codes "count") (refl, (refl, (refl, (refl, (refl, tt))))), (free_collection c p, tt))
 split_again space (Range c r object) fit p =
     split_joined 32 (words_of space (Range c r object)) (omega arith)
-    (free_word (codes "range") (refl, (refl, (refl, (refl, (refl, tt))))), (free_collection c p.0, (free_number r p.1, (IsFree-text_of space object fit p.2, tt))))
+    (free_word (codes "range") (refl, (refl, (refl, (refl, (refl, tt))))),
+        (free_collection c p.0, (free_number r p.1, (IsFree-text_of space object fit p.2, tt))))
 split_again space (Near c k object) fit p =
     let few = p.1.1 in
     split_joined 32 (words_of space (Near c k object)) (omega arith)
-    (free_word (codes "near") (refl, (refl, (refl, (refl, tt)))), (free_collection c p.0, (free_number k (omega (arith, few)), (IsFree-text_of space object fit p.2, tt))))
+    (free_word (codes "near") (refl, (refl, (refl, (refl, tt)))),
+        (free_collection c p.0, (free_number k (omega (arith, few)), (IsFree-text_of space object fit p.2, tt))))
 split_again space (Join c d r) fit p =
     split_joined 32 (words_of space (Join c d r)) (omega arith)
     (free_word (codes "join") (refl, (refl, (refl, (refl, tt)))), (free_collection c p.0, (free_collection d p.1, (free_number r p.2, tt))))
 
-pub line_read : (space : Space) (line : List ℕ) (command : Command) → IsTrue (fits space) → IsWellFormed space command → line ≡ command_text space command → command_of space line ≡ Ok command
+pub line_read : (space : Space) (line : List ℕ) (command : Command) → IsTrue (fits space) → IsWellFormed space command → line ≡ command_text space command
+    → command_of space line ≡ Ok command
 unfolding command_of
 line_read space line command fit p e = ap (command_of space) e ∙ ap (command_in space) (split_again space command fit p) ∙ command_again space command fit p

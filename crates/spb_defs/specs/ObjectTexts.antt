@@ -18,14 +18,16 @@ linf_some dim most h = grind (arith, nat_tests)
 sets_some : (universe most : ℕ) → IsTrue (fits (Sets universe most)) → 1 ≤ universe
 sets_some universe most h = grind (arith, nat_tests)
 
-pub read_text : (space : Space) (text object : List ℕ) → IsTrue (fits space) → object_of space text ≡ Some object → IsValid space object × (text ≡ text_of space object)
+pub read_text : (space : Space) (text object : List ℕ) → IsTrue (fits space) → object_of space text ≡ Some object → IsValid space object
+    × (text ≡ text_of space object)
 unfolding object_of
 read_text (L1 dim most) text object fit e = read_vector dim most text object (l1_ranges dim most fit).most_high e
 read_text (LInf dim most) text object fit e = read_vector dim most text object (linf_small dim most fit) e
 read_text (Hamming len) text object fit e = read_string len text object e
 read_text (Sets universe most) text object fit e = read_set universe most text object (sets_some universe most fit) (sets_small universe most fit) e
 
-pub text_read : (space : Space) (text object : List ℕ) → IsTrue (fits space) → IsValid space object → text ≡ text_of space object → object_of space text ≡ Some object
+pub text_read : (space : Space) (text object : List ℕ) → IsTrue (fits space) → IsValid space object → text ≡ text_of space object
+    → object_of space text ≡ Some object
 unfolding object_of
 text_read (L1 dim most) text object fit v e = vector_read dim most text object (l1_ranges dim most fit).dim_low (l1_ranges dim most fit).most_high v e
 text_read (LInf dim most) text object fit v e = vector_read dim most text object (linf_some dim most fit) (linf_small dim most fit) v e

@@ -21,7 +21,8 @@ rising_from [] e k h = absurd (omega arith)
 rising_from (x ∷ []) e k h = absurd (omega arith)
 rising_from (x ∷ y ∷ rest) e zero h = let first = (and_parts (nat_lt x y) (is_rising (y ∷ rest)) e).0 in grind (arith, nat_tests)
 rising_from (x ∷ y ∷ rest) e (suc k) h =
-    let step : get_or (y ∷ rest) k 0 < get_or (y ∷ rest) (k + 1) 0 = rising_from (y ∷ rest) (and_parts (nat_lt x y) (is_rising (y ∷ rest)) e).1 k (omega arith) in
+    let step : get_or (y ∷ rest) k 0 < get_or (y ∷ rest) (k + 1) 0 =
+        rising_from (y ∷ rest) (and_parts (nat_lt x y) (is_rising (y ∷ rest)) e).1 k (omega arith) in
     let next : suc (k + 1) ≡ suc k + 1 = omega arith in
     subst (λ j. get_or (y ∷ rest) k 0 < get_or (x ∷ y ∷ rest) j 0) next step
 
@@ -69,7 +70,8 @@ of most (Some ns) object e =
     let low : nat_le (length ns) most ≡ true = parts.0 in
     record { numbers = ns; is = refl; rising = rising_from ns parts.1; few = grind (arith, nat_tests); bytes = test.1 }
 
-read_some : (universe most : ℕ) (text object : List ℕ) → 1 ≤ universe → universe < 2 ^ 32 → IsOf most (numbers_in (universe - 1) text) object → IsSubset universe most object × (text ≡ set_text (components object))
+read_some : (universe most : ℕ) (text object : List ℕ) → 1 ≤ universe → universe < 2 ^ 32 → IsOf most (numbers_in (universe - 1) text) object
+    → IsSubset universe most object × (text ≡ set_text (components object))
 read_some universe most text object one small parts =
     let read : AreRead (universe - 1) text parts.numbers = numbers_in-text (universe - 1) text parts.numbers parts.is in
     let inside : All (λ n. n < universe) parts.numbers = λ k d h. let l : get_or parts.numbers k d ≤ universe - 1 = read.within k d h in omega arith in
@@ -83,13 +85,15 @@ same_object : (a b : List ℕ) → ◌≡◌ {A = Option (List ℕ)} (Some a) (S
 same_object a b e = cc
 
 by_test : (universe most : ℕ) (text object : List ℕ) (b : Bool) → 1 ≤ universe → universe < 2 ^ 32 → (b ≡ true → text ≡ codes "-") →
-    cond b (Some []) (option_and_then (set_with most) (numbers_in (universe - 1) text)) ≡ Some object → IsSubset universe most object × (text ≡ set_text (components object))
+    cond b (Some []) (option_and_then (set_with most) (numbers_in (universe - 1) text)) ≡ Some object → IsSubset universe most object
+        × (text ≡ set_text (components object))
 by_test universe most text object true one small dash e =
     let none : [] ≡ object = same_object [] object e in
     (subst (IsSubset universe most) none (empty_set universe most), dash refl ∙ sym text_of_none ∙ ap (λ o. set_text (components o)) none)
 by_test universe most text object false one small dash e = read_some universe most text object one small (of most (numbers_in (universe - 1) text) object e)
 
-pub read_set : (universe most : ℕ) (text object : List ℕ) → 1 ≤ universe → universe < 2 ^ 32 → set_of_text universe most text ≡ Some object → IsSubset universe most object × (text ≡ set_text (components object))
+pub read_set : (universe most : ℕ) (text object : List ℕ) → 1 ≤ universe → universe < 2 ^ 32 → set_of_text universe most text ≡ Some object
+    → IsSubset universe most object × (text ≡ set_text (components object))
 unfolding set_of_text
 read_set universe most text object one small e =
     by_test universe most text object (bytes_eq text (codes "-")) one small (bytes_eq-Decides text (codes "-")).0 e
@@ -110,13 +114,15 @@ no_dash bound ns small low e =
 at_most_last : (universe : ℕ) (ns : List ℕ) → All (λ n. n < universe) ns → All (λ n. n ≤ universe - 1) ns
 at_most_last universe ns h = λ k d inside. let low : get_or ns k d < universe = h k d inside in omega arith
 
-elements_read : (universe most : ℕ) (ns : List ℕ) → universe < 2 ^ 32 → IsRisingWithin universe most ns → set_of_text universe most (set_text ns) ≡ Some (object_of_components ns)
+elements_read : (universe most : ℕ) (ns : List ℕ) → universe < 2 ^ 32 → IsRisingWithin universe most ns
+    → set_of_text universe most (set_text ns) ≡ Some (object_of_components ns)
 unfolding set_of_text object_of_components
 elements_read universe most [] small v = refl
 elements_read universe most (n ∷ ns) small v =
     let low : All (λ k. k ≤ universe - 1) (n ∷ ns) = at_most_last universe (n ∷ ns) v.within in
     let few = v.few in
-    let dash : bytes_eq (numbers_text (n ∷ ns)) (codes "-") ≡ false = not_true _ (λ e. no_dash (universe - 1) (n ∷ ns) (omega arith) low ((bytes_eq-Decides (numbers_text (n ∷ ns)) (codes "-")).0 e)) in
+    let dash : bytes_eq (numbers_text (n ∷ ns)) (codes "-") ≡ false =
+        not_true _ (λ e. no_dash (universe - 1) (n ∷ ns) (omega arith) low ((bytes_eq-Decides (numbers_text (n ∷ ns)) (codes "-")).0 e)) in
     let read : numbers_in (universe - 1) (numbers_text (n ∷ ns)) ≡ Some (n ∷ ns) = text-numbers_in (universe - 1) (n ∷ ns) (omega arith) (omega arith) low in
     let many : nat_le (length (n ∷ ns)) most ≡ true = grind (arith, nat_tests) in
     let test : (nat_le (length (n ∷ ns)) most && is_rising (n ∷ ns)) ≡ true = ap (λ b. b && is_rising (n ∷ ns)) many ∙ rising_test (n ∷ ns) v.rising in
@@ -124,7 +130,8 @@ elements_read universe most (n ∷ ns) small v =
     ∙ ap (option_and_then (set_with most)) read
     ∙ ap (λ (b : Bool). cond b (Some (object_of_components (n ∷ ns))) None) test
 
-pub set_read : (universe most : ℕ) (text object : List ℕ) → universe < 2 ^ 32 → IsSubset universe most object → text ≡ set_text (components object) → set_of_text universe most text ≡ Some object
+pub set_read : (universe most : ℕ) (text object : List ℕ) → universe < 2 ^ 32 → IsSubset universe most object → text ≡ set_text (components object)
+    → set_of_text universe most text ≡ Some object
 set_read universe most text object small v e =
     let text_is : text ≡ set_text v.elements = e ∙ ap set_text (components-IsSubset universe most object small v) in
     ap (set_of_text universe most) text_is ∙ elements_read universe most v.elements small v.set ∙ ap (λ (o : List ℕ). Some o) (sym v.spelling)
@@ -142,4 +149,5 @@ free_elements universe most (n ∷ ns) small v =
 
 pub IsFree-set : (universe most : ℕ) (object : List ℕ) → universe < 2 ^ 32 → IsSubset universe most object → IsFree 32 (set_text (components object))
 IsFree-set universe most object small v =
-    subst (λ (ns : List ℕ). IsFree 32 (set_text ns)) (sym (components-IsSubset universe most object small v)) (free_elements universe most v.elements small v.set)
+    subst (λ (ns : List ℕ). IsFree 32 (set_text ns)) (sym (components-IsSubset universe most object small v))
+        (free_elements universe most v.elements small v.set)

@@ -44,7 +44,8 @@ valid_bytes len text bytes d =
     let size = d.size in
     record { size = omega arith; bytes = All-from_get_or (λ b. b < 256) bytes 0 (λ k h. ok.2 k) }
 
-by_answer : (len : ℕ) (text object : List ℕ) (read : Result (List ℕ) FromHexError) → decode_sized text len ≡ read → string_with text read ≡ Some object → IsString len object × (text ≡ encode_lower object)
+by_answer : (len : ℕ) (text object : List ℕ) (read : Result (List ℕ) FromHexError) → decode_sized text len ≡ read → string_with text read ≡ Some object
+    → IsString len object × (text ≡ encode_lower object)
 by_answer len text object (Ok bytes) d e =
     let test = cond_some (bytes_eq (encode_lower bytes) text) bytes object e in
     let same : encode_lower bytes ≡ text = (bytes_eq-Decides (encode_lower bytes) text).0 test.0 in
@@ -69,7 +70,8 @@ string_read len text object v e =
     let size = v.size in
     let two : length text ≡ 2 * length object = ap length e ∙ length-encode_with lower_digits object in
     let decoded : decode_sized text len ≡ Ok object =
-    decode_sized-pairs text len (omega arith) (omega arith) ∙ ap (decode_pairs 0) e ∙ decode_pairs-encode_with lower_digits IsDigits-lower_digits 0 object (are_bytes len object v) in
+    decode_sized-pairs text len (omega arith) (omega arith) ∙ ap (decode_pairs 0) e
+        ∙ decode_pairs-encode_with lower_digits IsDigits-lower_digits 0 object (are_bytes len object v) in
     let same : bytes_eq (encode_lower object) text ≡ true = (bytes_eq-Decides (encode_lower object) text).1 (sym e) in
     ap (string_with text) decoded ∙ ap (λ (b : Bool). cond b (Some object) None) same
 
@@ -89,8 +91,10 @@ unfolding encode_with
 bytes_free [] h = λ k d inside. absurd (omega arith)
 bytes_free (b ∷ rest) h =
     let small : b < 256 = h 0 0 (omega arith) in
-    All-cons (λ x. (x == 32) ≡ false) (slice_index lower_digits (b / 16)) (slice_index lower_digits (b % 16) ∷ encode_lower rest) (digit_free (b / 16) (omega arith))
-    (All-cons (λ x. (x == 32) ≡ false) (slice_index lower_digits (b % 16)) (encode_lower rest) (digit_free (b % 16) (omega arith)) (bytes_free rest (All-tail (λ x. x < 256) b rest h)))
+    All-cons (λ x. (x == 32) ≡ false) (slice_index lower_digits (b / 16)) (slice_index lower_digits (b % 16) ∷ encode_lower rest)
+        (digit_free (b / 16) (omega arith))
+    (All-cons (λ x. (x == 32) ≡ false) (slice_index lower_digits (b % 16)) (encode_lower rest) (digit_free (b % 16) (omega arith))
+        (bytes_free rest (All-tail (λ x. x < 256) b rest h)))
 
 pub IsFree-string : (len : ℕ) (object : List ℕ) → IsString len object → IsFree 32 (encode_lower object)
 IsFree-string len object v = bytes_free object v.bytes

@@ -24,7 +24,8 @@ pub record IsConsed (first : Option ℕ) (others : Option (List ℕ)) (ns : List
   pub behind : others ≡ Some numbers
   pub both : ns ≡ number ∷ numbers
 
-pub consed : (first : Option ℕ) (others : Option (List ℕ)) (ns : List ℕ) → option_and_then (λ n. option_and_then (λ ms. Some (n ∷ ms)) others) first ≡ Some ns → IsConsed first others ns
+pub consed : (first : Option ℕ) (others : Option (List ℕ)) (ns : List ℕ) → option_and_then (λ n. option_and_then (λ ms. Some (n ∷ ms)) others) first ≡ Some ns
+    → IsConsed first others ns
 consed None others ns e = absurd (cc)
 consed (Some n) None ns e = absurd (cc)
 consed (Some n) (Some ms) ns e = record { number = n; numbers = ms; here = refl; behind = refl; both = cc }
@@ -44,7 +45,8 @@ All-numbers_within bound [] ns e = subst (All (λ n. n ≤ bound)) (sym (nil_som
 All-numbers_within bound (word ∷ words) ns e =
     let parts = consed (number_within bound word) (numbers_within bound words) ns e in
     let rest : All (λ n. n ≤ bound) parts.numbers = All-numbers_within bound words parts.numbers parts.behind in
-    subst (All (λ n. n ≤ bound)) (sym parts.both) (All-cons (λ n. n ≤ bound) parts.number parts.numbers (number_within-le bound parts.number word parts.here) rest)
+    subst (All (λ n. n ≤ bound)) (sym parts.both)
+        (All-cons (λ n. n ≤ bound) parts.number parts.numbers (number_within-le bound parts.number word parts.here) rest)
 
 -- ---- words without a byte
 
@@ -64,7 +66,8 @@ IsFree-decimal mark n h small =
     other_byte (get_or (decimal n) k 0) mark (let low = d.0 in omega arith))
 
 -- words that are joined are split again
-pub split_joined : (mark : ℕ) (words : List (List ℕ)) → 0 < length words → AllByRecursion (IsFree mark) words → slice_split (λ b. b == mark) (join_with_byte mark words) ≡ words
+pub split_joined : (mark : ℕ) (words : List (List ℕ)) → 0 < length words → AllByRecursion (IsFree mark) words
+    → slice_split (λ b. b == mark) (join_with_byte mark words) ≡ words
 split_joined mark [] some h = absurd (omega arith)
 split_joined mark (w ∷ []) some h = slice_split_none (λ b. b == mark) w h.0
 split_joined mark (w ∷ v ∷ vs) some h =
@@ -78,7 +81,8 @@ numbers_within-decimals bound [] ns e = ap (map decimal) (sym (nil_some ns e))
 numbers_within-decimals bound (word ∷ words) ns e =
     let parts = consed (number_within bound word) (numbers_within bound words) ns e in
     let rest : words ≡ map decimal parts.numbers = numbers_within-decimals bound words parts.numbers parts.behind in
-    ap (λ (w : List ℕ). w ∷ words) (number_within-decimal bound parts.number word parts.here).0 ∙ ap (λ (ws : List (List ℕ)). decimal parts.number ∷ ws) rest ∙ ap (map decimal) (sym parts.both)
+    ap (λ (w : List ℕ). w ∷ words) (number_within-decimal bound parts.number word parts.here).0 ∙ ap (λ (ws : List (List ℕ)). decimal parts.number ∷ ws) rest
+        ∙ ap (map decimal) (sym parts.both)
 
 pub decimals-numbers_within : (bound : ℕ) (ns : List ℕ) → bound < 2 ^ 64 → All (λ n. n ≤ bound) ns → numbers_within bound (map decimal ns) ≡ Some ns
 decimals-numbers_within bound [] small h = refl
@@ -95,7 +99,8 @@ IsFree-decimals mark bound (n ∷ ns) h small low =
     let first : n ≤ bound = low 0 0 (omega arith) in
     (IsFree-decimal mark n h (omega arith), IsFree-decimals mark bound ns h small (All-tail (λ k. k ≤ bound) n ns low))
 
-pub IsFree-joined : (mark other : ℕ) (words : List (List ℕ)) → (other == mark) ≡ false → AllByRecursion (IsFree mark) words → IsFree mark (join_with_byte other words)
+pub IsFree-joined : (mark other : ℕ) (words : List (List ℕ)) → (other == mark) ≡ false → AllByRecursion (IsFree mark) words
+    → IsFree mark (join_with_byte other words)
 IsFree-joined mark other [] e h = λ k d inside. absurd (omega arith)
 IsFree-joined mark other (w ∷ []) e h = h.0
 IsFree-joined mark other (w ∷ v ∷ vs) e h =
@@ -129,6 +134,7 @@ text-numbers_in bound ns some small low =
     ∙ decimals-numbers_within bound ns small low
 
 -- it has no byte below the digits but the comma
-pub IsFree-numbers_text : (mark bound : ℕ) (ns : List ℕ) → mark < 48 → (44 == mark) ≡ false → bound < 2 ^ 64 → All (λ n. n ≤ bound) ns → IsFree mark (numbers_text ns)
+pub IsFree-numbers_text : (mark bound : ℕ) (ns : List ℕ) → mark < 48 → (44 == mark) ≡ false → bound < 2 ^ 64 → All (λ n. n ≤ bound) ns
+    → IsFree mark (numbers_text ns)
 IsFree-numbers_text mark bound ns h comma small low =
     IsFree-joined mark 44 (map decimal ns) comma (IsFree-decimals mark bound ns h small low)

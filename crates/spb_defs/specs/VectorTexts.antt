@@ -13,7 +13,8 @@ use Rattle.spb_defs.specs.TextLaws.{AreRead, numbers_in-text, text-numbers_in, I
 
 -- ---- what is read is an object
 
-valid_numbers : (dim most : ℕ) (words : List (List ℕ)) (read : Option (List ℕ)) (object : List ℕ) → ((ns : List ℕ) → read ≡ Some ns → All (λ n. n ≤ most) ns) → option_and_then (vector_with dim) read ≡ Some object → IsVector dim most object
+valid_numbers : (dim most : ℕ) (words : List (List ℕ)) (read : Option (List ℕ)) (object : List ℕ) → ((ns : List ℕ) → read ≡ Some ns → All (λ n. n ≤ most) ns)
+    → option_and_then (vector_with dim) read ≡ Some object → IsVector dim most object
 valid_numbers dim most words None object h e = absurd (cc)
 valid_numbers dim most words (Some ns) object h e =
     let test = cond_some (length ns == dim) (object_of_components ns) object e in
@@ -39,7 +40,8 @@ of : (dim : ℕ) (read : Option (List ℕ)) (object : List ℕ) → option_and_t
 of dim None object e = absurd (cc)
 of dim (Some ns) object e = record { numbers = ns; is = refl; bytes = (cond_some (length ns == dim) (object_of_components ns) object e).1 }
 
-pub read_vector : (dim most : ℕ) (text object : List ℕ) → most < 2 ^ 32 → vector_of_text dim most text ≡ Some object → IsVector dim most object × (text ≡ numbers_text (components object))
+pub read_vector : (dim most : ℕ) (text object : List ℕ) → most < 2 ^ 32 → vector_of_text dim most text ≡ Some object → IsVector dim most object
+    × (text ≡ numbers_text (components object))
 unfolding vector_of_text
 read_vector dim most text object small e =
     let parts = of dim (numbers_in most text) object e in
@@ -48,7 +50,8 @@ read_vector dim most text object small e =
     let numbers : components object ≡ parts.numbers = ap components (sym parts.bytes) ∙ components-object_of_components parts.numbers below in
     (vector_of_text-valid dim most text object e, read.text_is ∙ ap numbers_text (sym numbers))
 
-pub vector_read : (dim most : ℕ) (text object : List ℕ) → 1 ≤ dim → most < 2 ^ 32 → IsVector dim most object → text ≡ numbers_text (components object) → vector_of_text dim most text ≡ Some object
+pub vector_read : (dim most : ℕ) (text object : List ℕ) → 1 ≤ dim → most < 2 ^ 32 → IsVector dim most object → text ≡ numbers_text (components object)
+    → vector_of_text dim most text ≡ Some object
 unfolding vector_of_text
 vector_read dim most text object some small v e =
     let dimension = v.dimension in
@@ -56,7 +59,8 @@ vector_read dim most text object some small v e =
     let text_is : text ≡ numbers_text v.numbers = e ∙ ap numbers_text numbers in
     let read : numbers_in most text ≡ Some v.numbers = ap (numbers_in most) text_is ∙ text-numbers_in most v.numbers (omega arith) (omega arith) v.within in
     let test : (length v.numbers == dim) ≡ true = grind (arith, nat_tests) in
-    ap (option_and_then (vector_with dim)) read ∙ ap (λ (b : Bool). cond b (Some (object_of_components v.numbers)) None) test ∙ ap (λ (o : List ℕ). Some o) (sym v.spelling)
+    ap (option_and_then (vector_with dim)) read ∙ ap (λ (b : Bool). cond b (Some (object_of_components v.numbers)) None) test
+        ∙ ap (λ (o : List ℕ). Some o) (sym v.spelling)
 
 pub IsFree-vector : (dim most : ℕ) (object : List ℕ) → most < 2 ^ 32 → IsVector dim most object → IsFree 32 (numbers_text (components object))
 IsFree-vector dim most object small v =

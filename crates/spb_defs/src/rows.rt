@@ -31,11 +31,15 @@ pub fn worked_rows()
         (codes "ok" ∷ codes "absent" ∷ codes "object 3,4" ∷ codes "count 1" ∷ codes "absent" ∷ codes "ok" ∷ codes "count 0" ∷ []) }
     // Without pivots all distances are computed, but for those after a last rank at distance 0.
     ensures nearest { AreAnswered
-        (codes "add 0 1 0,0" ∷ codes "add 0 2 3,4" ∷ codes "add 0 3 10,0" ∷ codes "add 0 4 3,0" ∷ codes "near 0 2 3,1" ∷ codes "near 0 1 3,4" ∷ codes "near 0 9 3,0" ∷ codes "near 1 1 0,0" ∷ [])
-        (codes "ok" ∷ codes "ok" ∷ codes "ok" ∷ codes "ok" ∷ codes "near 2 evals 4: 4@1 2@3" ∷ codes "near 1 evals 2: 2@0" ∷ codes "near 4 evals 4: 4@0 1@3 2@4 3@7" ∷ codes "near 0 evals 0:" ∷ []) }
+        (codes "add 0 1 0,0" ∷ codes "add 0 2 3,4" ∷ codes "add 0 3 10,0" ∷ codes "add 0 4 3,0" ∷ codes "near 0 2 3,1" ∷ codes "near 0 1 3,4" ∷ codes
+            "near 0 9 3,0" ∷ codes "near 1 1 0,0" ∷ [])
+        (codes "ok" ∷ codes "ok" ∷ codes "ok" ∷ codes "ok" ∷ codes "near 2 evals 4: 4@1 2@3" ∷ codes "near 1 evals 2: 2@0" ∷ codes
+            "near 4 evals 4: 4@0 1@3 2@4 3@7" ∷ codes "near 0 evals 0:" ∷ []) }
     ensures joined { AreAnswered
-        (codes "add 0 1 0,0" ∷ codes "add 0 2 3,4" ∷ codes "add 1 1 1,1" ∷ codes "add 1 9 3,5" ∷ codes "join 0 1 3" ∷ codes "join 1 0 3" ∷ codes "join 0 1 8" ∷ codes "join 0 0 7" ∷ codes "join 0 2 x" ∷ [])
-        (codes "ok" ∷ codes "ok" ∷ codes "ok" ∷ codes "ok" ∷ codes "join 2 evals 4 sure 0: 1-1 2-9" ∷ codes "join 2 evals 4 sure 0: 1-1 9-2" ∷ codes "join 4 evals 4 sure 0: 1-1 1-9 2-1 2-9" ∷ codes "join 1 evals 1 sure 0: 1-2" ∷ codes "bad number" ∷ []) }
+        (codes "add 0 1 0,0" ∷ codes "add 0 2 3,4" ∷ codes "add 1 1 1,1" ∷ codes "add 1 9 3,5" ∷ codes "join 0 1 3" ∷ codes "join 1 0 3" ∷ codes "join 0 1 8" ∷
+            codes "join 0 0 7" ∷ codes "join 0 2 x" ∷ [])
+        (codes "ok" ∷ codes "ok" ∷ codes "ok" ∷ codes "ok" ∷ codes "join 2 evals 4 sure 0: 1-1 2-9" ∷ codes "join 2 evals 4 sure 0: 1-1 9-2" ∷ codes
+            "join 4 evals 4 sure 0: 1-1 1-9 2-1 2-9" ∷ codes "join 1 evals 1 sure 0: 1-2" ∷ codes "bad number" ∷ []) }
     // 16385 bytes are too many, and 16384 are read.
     ensures long { play plane (with_lf (replicate 16385 97) ++ replicate 16384 97) ≡ with_lf (codes "long") ++ with_lf (codes "bad command") }
     // No LF ends the last line.
@@ -71,7 +75,8 @@ pub fn worked_pivots()
         (three_samples ++ codes "add 0 1 0,0" ∷ codes "add 0 2 3,4" ∷ codes "add 1 1 1,1" ∷ codes "add 1 9 3,5" ∷ codes "join 0 1 3" ∷ [])
         (thrice_ok ++ codes "ok" ∷ codes "ok" ∷ codes "ok" ∷ codes "ok" ∷ codes "join 2 evals 1 sure 1: 1-1 2-9" ∷ []) }
     ensures twins { AreAnsweredWith 2
-        (three_samples ++ codes "add 0 1 7,7" ∷ codes "add 0 2 7,7" ∷ codes "join 0 0 0" ∷ codes "add 1 8 1,0" ∷ codes "add 1 7 0,1" ∷ codes "near 1 1 0,0" ∷ [])
+        (three_samples ++ codes "add 0 1 7,7" ∷ codes "add 0 2 7,7" ∷ codes "join 0 0 0" ∷ codes "add 1 8 1,0" ∷ codes "add 1 7 0,1" ∷ codes "near 1 1 0,0" ∷
+            [])
         (thrice_ok ++ codes "ok" ∷ codes "ok" ∷ codes "join 1 evals 1 sure 0: 1-2" ∷ codes "ok" ∷ codes "ok" ∷ codes "near 1 evals 3: 7@1" ∷ []) }
     // An object whose bound is the distance of the last rank is measured if its id is less.
     ensures tied { AreAnsweredWith 1
@@ -99,7 +104,8 @@ pub fn worked_pivots()
 /// Scripts over stores in a file: their room, their curve, and that their samples are closed from the start.
 pub fn worked_files()
     ensures full { IsAnswered (plane_in_file Z 3)
-        (codes "add 0 1 0,0" ∷ codes "add 1 2 3,4" ∷ codes "add 0 3 10,0" ∷ codes "add 0 4 1,1" ∷ codes "add 1 2 9,9" ∷ codes "drop 0 1" ∷ codes "add 0 4 1,1" ∷ codes "get 1 2" ∷ codes "get 0 1" ∷ [])
+        (codes "add 0 1 0,0" ∷ codes "add 1 2 3,4" ∷ codes "add 0 3 10,0" ∷ codes "add 0 4 1,1" ∷ codes "add 1 2 9,9" ∷ codes "drop 0 1" ∷ codes "add 0 4 1,1"
+            ∷ codes "get 1 2" ∷ codes "get 0 1" ∷ [])
         (codes "ok" ∷ codes "ok" ∷ codes "ok" ∷ codes "full" ∷ codes "exists" ∷ codes "ok" ∷ codes "ok" ∷ codes "object 3,4" ∷ codes "absent" ∷ []) }
     ensures late { IsAnswered (plane_in_file Z 3)
         (codes "sample 1,1" ∷ codes "sample 256,0" ∷ [])
@@ -133,12 +139,15 @@ pub fn worked_words()
     ensures pivots { asked_of (codes "mem" ∷ codes "hamming" ∷ codes "3" ∷ codes "8" ∷ []) ≡ Some (Mem (record { space = Hamming 3; pivots = 8 })) }
     ensures nine { asked_of (codes "mem" ∷ codes "hamming" ∷ codes "3" ∷ codes "9" ∷ []) ≡ None }
     ensures wide { asked_of (codes "mem" ∷ codes "l1" ∷ codes "31" ∷ codes "255" ∷ []) ≡ None }
-    ensures make { asked_of (codes "make" ∷ codes "a.spb" ∷ codes "z" ∷ codes "2" ∷ codes "65536" ∷ codes "l1" ∷ codes "2" ∷ codes "255" ∷ []) ≡ Some (Make Z 2 65536 (L1 2 255)) }
-    ensures hilbert { asked_of (codes "make" ∷ codes "h" ∷ codes "hilbert" ∷ codes "8" ∷ codes "1" ∷ codes "sets" ∷ codes "100" ∷ codes "5" ∷ []) ≡ Some (Make Hilbert 8 1 (Sets 100 5)) }
+    ensures make { asked_of (codes "make" ∷ codes "a.spb" ∷ codes "z" ∷ codes "2" ∷ codes "65536" ∷ codes "l1" ∷ codes "2" ∷ codes "255" ∷ [])
+        ≡ Some (Make Z 2 65536 (L1 2 255)) }
+    ensures hilbert { asked_of (codes "make" ∷ codes "h" ∷ codes "hilbert" ∷ codes "8" ∷ codes "1" ∷ codes "sets" ∷ codes "100" ∷ codes "5" ∷ [])
+        ≡ Some (Make Hilbert 8 1 (Sets 100 5)) }
     ensures no_pivots { asked_of (codes "make" ∷ codes "a.spb" ∷ codes "z" ∷ codes "0" ∷ codes "100" ∷ codes "l1" ∷ codes "2" ∷ codes "255" ∷ []) ≡ None }
     ensures no_room { asked_of (codes "make" ∷ codes "a.spb" ∷ codes "z" ∷ codes "2" ∷ codes "0" ∷ codes "l1" ∷ codes "2" ∷ codes "255" ∷ []) ≡ None }
     ensures too_large { asked_of (codes "make" ∷ codes "a.spb" ∷ codes "z" ∷ codes "2" ∷ codes "65537" ∷ codes "l1" ∷ codes "2" ∷ codes "255" ∷ []) ≡ None }
-    ensures one_more { asked_of (codes "make" ∷ codes "a.spb" ∷ codes "z" ∷ codes "2" ∷ codes "100" ∷ codes "l1" ∷ codes "2" ∷ codes "255" ∷ codes "2" ∷ []) ≡ None }
+    ensures one_more { asked_of (codes "make" ∷ codes "a.spb" ∷ codes "z" ∷ codes "2" ∷ codes "100" ∷ codes "l1" ∷ codes "2" ∷ codes "255" ∷ codes "2" ∷ [])
+        ≡ None }
     ensures run { asked_of (codes "run" ∷ codes "a.spb" ∷ []) ≡ Some Run }
     ensures check { asked_of (codes "check" ∷ codes "a.spb" ∷ []) ≡ Some Check }
     ensures dash { asked_of (codes "run" ∷ codes "-a" ∷ []) ≡ None }
@@ -154,12 +163,14 @@ pub fn worked_words()
 /// Words of the program, and the files on which they work: the definitions compute it. The call does nothing.
 pub fn worked_file_uses()
     ensures mem { file_use_of (codes "mem" ∷ codes "l1" ∷ codes "2" ∷ codes "255" ∷ []) ≡ FileUse.None }
-    ensures make { file_use_of (codes "make" ∷ codes "a.spb" ∷ codes "z" ∷ codes "2" ∷ codes "100" ∷ codes "l1" ∷ codes "2" ∷ codes "255" ∷ []) ≡ FileUse.New (codes "a.spb") }
+    ensures make { file_use_of (codes "make" ∷ codes "a.spb" ∷ codes "z" ∷ codes "2" ∷ codes "100" ∷ codes "l1" ∷ codes "2" ∷ codes "255" ∷ [])
+        ≡ FileUse.New (codes "a.spb") }
     ensures run { file_use_of (codes "run" ∷ codes "a.spb" ∷ []) ≡ FileUse.Old (codes "a.spb") }
     ensures check { file_use_of (codes "check" ∷ codes "a.spb" ∷ []) ≡ FileUse.Old (codes "a.spb") }
     ensures trial { file_use_of (codes "trial" ∷ codes "t" ∷ codes "7" ∷ codes "300" ∷ []) ≡ FileUse.New (codes "t") }
     ensures dash { file_use_of (codes "run" ∷ codes "-a" ∷ []) ≡ FileUse.None }
-    ensures no_room { file_use_of (codes "make" ∷ codes "a.spb" ∷ codes "z" ∷ codes "2" ∷ codes "0" ∷ codes "l1" ∷ codes "2" ∷ codes "255" ∷ []) ≡ FileUse.None }
+    ensures no_room { file_use_of (codes "make" ∷ codes "a.spb" ∷ codes "z" ∷ codes "2" ∷ codes "0" ∷ codes "l1" ∷ codes "2" ∷ codes "255" ∷ [])
+        ≡ FileUse.None }
     ensures nameless { file_use_of (codes "run" ∷ []) ≡ FileUse.None }
     ensures wordless { file_use_of [] ≡ FileUse.None }
 {}

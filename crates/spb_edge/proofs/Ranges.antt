@@ -28,16 +28,19 @@ join-more len (r ∷ ranges) least at count next (within, rest) le most = (withi
 pub join-rest : (byte : ℕ) (kept : List ℕ) (range : Extent) (ranges : List Extent) (least : ℕ) → ReachTo (length kept) (range ∷ ranges) least
     → ReachTo (length (overwritten_at kept range.at (replicate range.len byte))) ranges least
 join-rest byte kept range ranges least (within, rest) =
-    subst (λ (n : ℕ). ReachTo n ranges least) (sym (length-overwritten_at kept range.at (replicate range.len byte) within ∙ ap (λ n. max (length kept) (range.at + n)) (length-replicate range.len byte))) rest
+    subst (λ (n : ℕ). ReachTo n ranges least) (sym (length-overwritten_at kept range.at (replicate range.len byte) within
+        ∙ ap (λ n. max (length kept) (range.at + n)) (length-replicate range.len byte))) rest
 
 -- each range filled with a byte is a crash state
-pub fills : (byte : ℕ) (kept : List ℕ) (ranges : List Extent) (least : ℕ) → ReachTo (length kept) ranges least → AreTornOver kept ranges (with_ranges_filled byte kept ranges)
+pub fills : (byte : ℕ) (kept : List ℕ) (ranges : List Extent) (least : ℕ) → ReachTo (length kept) ranges least
+    → AreTornOver kept ranges (with_ranges_filled byte kept ranges)
 fills byte kept [] least join = refl
 fills byte kept (range ∷ ranges) least join =
     let next = overwritten_at kept range.at (replicate range.len byte) in (
       next,
       (
-        subst (λ (n : ℕ). IsTornWrite range.at n kept next) (length-replicate range.len byte) (torn-overwritten_at kept range.at (replicate range.len byte) join.0),
+        subst (λ (n : ℕ). IsTornWrite range.at n kept next) (length-replicate range.len byte)
+            (torn-overwritten_at kept range.at (replicate range.len byte) join.0),
         fills byte next ranges least (join-rest byte kept range ranges least join),
       ),
     )
@@ -54,25 +57,30 @@ follows-range old at bytes image within which c (inl now) = (old.image, inl refl
   where
     whole : (image ≡ old.image) ⊎ (image ≡ overwritten_at old.image at bytes) → IsTornWrite at (length bytes) old.image c
     whole (inl same) = subst (λ (i : List ℕ). IsTornWrite at (length bytes) old.image i) (sym (now ∙ same)) (torn-same at (length bytes) old.image)
-    whole (inr overwritten_at) = subst (λ (i : List ℕ). IsTornWrite at (length bytes) old.image i) (sym (now ∙ overwritten_at)) (torn-overwritten_at old.image at bytes within)
+    whole (inr overwritten_at) = subst (λ (i : List ℕ). IsTornWrite at (length bytes) old.image i) (sym (now ∙ overwritten_at))
+        (torn-overwritten_at old.image at bytes within)
 follows-range old at bytes image within which c (inr left) =
     let before = leaves-last old.kept old.unsynced (record { at = at; len = length bytes }) c left in
     (before.0, inr before.1.0, before.1.1)
 
 -- the bytes overwrite an image that had grown by them already
-pub grown-overwritten_at : (old items with_ranges_filled : List ℕ) (at count growth byte len : ℕ) → at ≤ length old → growth ≡ count - min count (length old - at)
+pub grown-overwritten_at : (old items with_ranges_filled : List ℕ) (at count growth byte len : ℕ) → at ≤ length old
+    → growth ≡ count - min count (length old - at)
     → items ≡ old ++ replicate growth byte → len ≡ length items → with_ranges_filled ≡ overwritten_at items at (replicate count byte)
     → take len (with_ranges_filled ++ drop (length with_ranges_filled) items) ≡ overwritten_at old at (replicate count byte)
 grown-overwritten_at old items with_ranges_filled at count growth byte len within is grown same put =
     let bytes = replicate count byte in
     let more = replicate growth byte in
     let sized : length items ≡ length old + growth = ap length grown ∙ length-append old more ∙ ap (λ n. length old + n) (length-replicate growth byte) in
-    let long : length with_ranges_filled ≡ length items = ap length put ∙ length-overwritten_at items at bytes (omega (arith, sized, within)) ∙ omega (arith, sized, is, within, length-replicate count byte) in
+    let long : length with_ranges_filled ≡ length items = ap length put ∙ length-overwritten_at items at bytes (omega (arith, sized, within))
+        ∙ omega (arith, sized, is, within, length-replicate count byte) in
     let none : drop (length with_ranges_filled) items ≡ [] = drop_of_length-le items (omega (arith, long)) in
     let all : take len (with_ranges_filled ++ drop (length with_ranges_filled) items) ≡ with_ranges_filled =
-    ap (λ l. take len (with_ranges_filled ++ l)) none ∙ ap (take len) (append-nil with_ranges_filled) ∙ ap (λ n. take n with_ranges_filled) (same ∙ sym long) ∙ take-length with_ranges_filled in
+    ap (λ l. take len (with_ranges_filled ++ l)) none ∙ ap (take len) (append-nil with_ranges_filled) ∙ ap (λ n. take n with_ranges_filled) (same ∙ sym long)
+        ∙ take-length with_ranges_filled in
     let reach : (growth ≡ 0) ⊎ (length old + growth ≤ at + length bytes) =
-    ⊎_elim (λ lt. inl (omega (arith, is, lt, length-replicate count byte))) (λ le. inr (omega (arith, is, le, within, length-replicate count byte))) (cases_lt (at + length bytes) (length old)) in
+    ⊎_elim (λ lt. inl (omega (arith, is, lt, length-replicate count byte))) (λ le. inr (omega (arith, is, le, within, length-replicate count byte)))
+        (cases_lt (at + length bytes) (length old)) in
     all ∙ put ∙ ap (λ i. overwritten_at i at bytes) grown
     ∙ ap (λ front. front ++ bytes ++ drop (at + length bytes) (old ++ more)) (take-append-le at old more within)
     ∙ ap (λ rest. take at old ++ bytes ++ rest) (behind (at + length bytes) (reach))

@@ -38,7 +38,8 @@ lines_of-last limit piece none some =
 
 -- ---- the lines that an LF ends
 
-pub ended_lines-ended : (limit : ℕ) (piece rest : List ℕ) → HasNoLf piece → ended_lines limit (piece ++ 10 ∷ rest) ≡ line_of limit piece ∷ ended_lines limit rest
+pub ended_lines-ended : (limit : ℕ) (piece rest : List ℕ) → HasNoLf piece
+    → ended_lines limit (piece ++ 10 ∷ rest) ≡ line_of limit piece ∷ ended_lines limit rest
 unfolding ended_lines
 ended_lines-ended limit piece rest none =
     let p = parts_of rest in

@@ -59,13 +59,15 @@ AnswersWrite (Err Memory) old at bytes new = (succeeds old.log (length bytes) �
 abbrev pub earlier_contents : List ℕ → ℕ → Contents → List DiskCall → List ℕ → List Contents
 earlier_contents failing number now [] written = []
 earlier_contents failing number now (call ∷ calls) written =
-    now ∷ earlier_contents failing (number + 1) (contents_after (is_failing failing number) call (take (written_count call) written) now) calls (drop (written_count call) written)
+    now ∷ earlier_contents failing (number + 1) (contents_after (is_failing failing number) call (take (written_count call) written) now) calls
+        (drop (written_count call) written)
 
 -- what it holds after them
 abbrev pub replayed : List ℕ → ℕ → Contents → List DiskCall → List ℕ → Contents
 replayed failing number now [] written = now
 replayed failing number now (call ∷ calls) written =
-    replayed failing (number + 1) (contents_after (is_failing failing number) call (take (written_count call) written) now) calls (drop (written_count call) written)
+    replayed failing (number + 1) (contents_after (is_failing failing number) call (take (written_count call) written) now) calls
+        (drop (written_count call) written)
 
 -- the image was a crash state of one of them
 abbrev pub HadCrashState : List Contents → List ℕ → Type 0
@@ -100,10 +102,12 @@ IsQuietDisk old new = IsQuiet (λ (d : DiskState). true) (λ (d : DiskState). tr
     (λ (d : DiskState). IsCrashState d.held) (λ (d : DiskState). length d.log.calls) crash_states_since old new
 
 -- before each call it held something
-pub length-earlier_contents : (failing : List ℕ) (number : ℕ) (now : Contents) (calls : List DiskCall) (written : List ℕ) → length (earlier_contents failing number now calls written) ≡ length calls
+pub length-earlier_contents : (failing : List ℕ) (number : ℕ) (now : Contents) (calls : List DiskCall) (written : List ℕ)
+    → length (earlier_contents failing number now calls written) ≡ length calls
 length-earlier_contents failing number now [] written = refl
 length-earlier_contents failing number now (call ∷ calls) written =
-    ap suc (length-earlier_contents failing (number + 1) (contents_after (is_failing failing number) call (take (written_count call) written) now) calls (drop (written_count call) written))
+    ap suc (length-earlier_contents failing (number + 1) (contents_after (is_failing failing number) call (take (written_count call) written) now) calls
+        (drop (written_count call) written))
 
 none_left : (held : List Contents) (c : List ℕ) → HadCrashState (drop (length held) held) c → ⊥
 none_left [] c had = had
@@ -112,4 +116,6 @@ none_left (now ∷ held) c had = none_left held c had
 -- since now, a crash leaves only what it may leave now
 pub only_now : (d : DiskState) → Includes (IsCrashState d.held) (crash_states_since d (length d.log.calls))
 only_now d c (inl now) = now
-only_now d c (inr had) = absurd (none_left (contents_before_calls d.first d.log) c (subst (λ (n : ℕ). HadCrashState (drop n (contents_before_calls d.first d.log)) c) (sym (length-earlier_contents d.log.failing 1 (fresh_contents d.first d.log.call_room) d.log.calls d.log.written)) had))
+only_now d c (inr had) = absurd (none_left (contents_before_calls d.first d.log) c
+    (subst (λ (n : ℕ). HadCrashState (drop n (contents_before_calls d.first d.log)) c)
+    (sym (length-earlier_contents d.log.failing 1 (fresh_contents d.first d.log.call_room) d.log.calls d.log.written)) had))

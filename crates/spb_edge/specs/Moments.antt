@@ -4,7 +4,8 @@ use Rattle.spb_edge.specs.Crash.{Elapses, CrashesLeaveOnly}
 
 module _ {D : Type 0} (moment : D → ℕ) (crash_states_since : D → ℕ → List ℕ → Type 0) where
   -- before the first call
-  pub started : (old : D) (P : List ℕ → Type 0) → ((c : List ℕ) → crash_states_since old (moment old) c → P c) → CrashesLeaveOnly moment crash_states_since old old P
+  pub started : (old : D) (P : List ℕ → Type 0) → ((c : List ℕ) → crash_states_since old (moment old) c → P c)
+      → CrashesLeaveOnly moment crash_states_since old old P
   started old P here = record { later = omega arith; each = here; before = λ t c le left. inl left }
 
   -- one call more, after which a crash leaves what has P
@@ -18,7 +19,8 @@ module _ {D : Type 0} (moment : D → ℕ) (crash_states_since : D → ℕ → L
   }
 
   -- what has P has Q
-  pub weaker : (old new : D) (P Q : List ℕ → Type 0) → ((c : List ℕ) → P c → Q c) → CrashesLeaveOnly moment crash_states_since old new P → CrashesLeaveOnly moment crash_states_since old new Q
+  pub weaker : (old new : D) (P Q : List ℕ → Type 0) → ((c : List ℕ) → P c → Q c) → CrashesLeaveOnly moment crash_states_since old new P
+      → CrashesLeaveOnly moment crash_states_since old new Q
   weaker old new P Q of run = record {
     later = run.later;
     each = λ c left. of c (run.each c left);
@@ -26,7 +28,8 @@ module _ {D : Type 0} (moment : D → ℕ) (crash_states_since : D → ℕ → L
   }
 
   -- one run after another
-  pub joined : (old mid new : D) (P : List ℕ → Type 0) → CrashesLeaveOnly moment crash_states_since old mid P → CrashesLeaveOnly moment crash_states_since mid new P → CrashesLeaveOnly moment crash_states_since old new P
+  pub joined : (old mid new : D) (P : List ℕ → Type 0) → CrashesLeaveOnly moment crash_states_since old mid P
+      → CrashesLeaveOnly moment crash_states_since mid new P → CrashesLeaveOnly moment crash_states_since old new P
   joined old mid new P first second = record {
     later = omega (arith, first.later, second.later);
     each = λ c left. ⊎_elim (first.each c) (λ has. has) (second.before (moment old) c first.later left);

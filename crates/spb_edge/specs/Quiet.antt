@@ -42,7 +42,8 @@ module _ {D : Type 0} (is_known knows_crashes : D → Bool) (size_of : D → ℕ
     since = λ c left. ⊎_elim (first.since c) (λ now. first.no_more c (second.no_more c now)) (second.time.nothing_else (moment old) c first.time.later left);
     time = record {
       later = omega (arith, first.time.later, second.time.later);
-      nothing_else = λ t c le left. ⊎_elim (λ was. ⊎_elim (λ past. inl past) (λ now. inr (second.no_fewer c now)) (first.time.nothing_else t c le was)) (λ now. inr now)
+      nothing_else = λ t c le left. ⊎_elim (λ was. ⊎_elim (λ past. inl past) (λ now. inr (second.no_fewer c now)) (first.time.nothing_else t c le was))
+          (λ now. inr now)
           (second.time.nothing_else t c (omega (arith, le, first.time.later)) left);
       keeps = λ t c le left. second.time.keeps t c (omega (arith, le, first.time.later)) (first.time.keeps t c le left);
     };
@@ -51,4 +52,5 @@ module _ {D : Type 0} (is_known knows_crashes : D → Bool) (size_of : D → ℕ
   -- a run goes on over a quiet stretch
   pub calmly : (old mid new : D) (P : List ℕ → Type 0) → CrashesLeaveOnly moment crash_states_since old mid P → IsQuiet mid new
       → ((c : List ℕ) → crash_states mid c → P c) → CrashesLeaveOnly moment crash_states_since old new P
-  calmly old mid new P run quiet here = goes_on moment crash_states_since old mid new P (crash_states new) run quiet.time (λ c now. here c (quiet.no_more c now))
+  calmly old mid new P run quiet here = goes_on moment crash_states_since old mid new P (crash_states new) run quiet.time
+      (λ c now. here c (quiet.no_more c now))

@@ -10,7 +10,8 @@ module _ (image : List ℕ) (at : ℕ) (bytes : List ℕ) (within : at ≤ lengt
 
   -- the length of the overwritten image
   pub length-overwritten_at : length (overwritten_at image at bytes) ≡ max (length image) (at + length bytes)
-  length-overwritten_at = length-append (take at image ++ bytes) (drop (at + length bytes) image) ∙ omega (arith, length-front, length-drop (at + length bytes) image)
+  length-overwritten_at = length-append (take at image ++ bytes) (drop (at + length bytes) image)
+      ∙ omega (arith, length-front, length-drop (at + length bytes) image)
 
   -- before the range
   pub overwritten_at-before : (k : ℕ) → k < at → slice_index (overwritten_at image at bytes) k ≡ slice_index image k

@@ -183,7 +183,8 @@ impl Disk for MemDisk {
         ensures image { Overwrites result at bytes.now self.old.held.image self.new.held.image }
         ensures length { Extends result (length self.old.held.image) (at + length bytes.now) (length self.new.held.image) }
         ensures crash { FollowsBy (IsTornWrite at (length bytes.now)) (IsCrashState self.old.held) (IsCrashState self.new.held) }
-        ensures time { Elapses (length self.old.log.calls) (length self.new.log.calls) (crash_states_since self.old) (crash_states_since self.new) (IsCrashState self.new.held) }
+        ensures time { Elapses (length self.old.log.calls) (length self.new.log.calls) (crash_states_since self.old) (crash_states_since self.new)
+            (IsCrashState self.new.held) }
         ensures reads { self.new.reads ≡ self.old.reads }
         ensures fault { CountsWriteFault result (length self.old.held.image) (at + length bytes.now) self.old.log.faults self.new.log.faults }
         ensures exact { AnswersWrite result self.old at bytes.now self.new }
@@ -209,7 +210,8 @@ impl Disk for MemDisk {
         ensures length { length self.new.held.image ≡ length self.old.held.image }
         ensures image { self.new.held.image ≡ self.old.held.image }
         ensures crash { Includes (IsCrashState self.old.held) (IsCrashState self.new.held) }
-        ensures time { Elapses (length self.old.log.calls) (length self.new.log.calls) (crash_states_since self.old) (crash_states_since self.new) (IsCrashState self.new.held) }
+        ensures time { Elapses (length self.old.log.calls) (length self.new.log.calls) (crash_states_since self.old) (crash_states_since self.new)
+            (IsCrashState self.new.held) }
         ensures reads { self.new.reads ≡ self.old.reads }
         ensures fault { CountsFault result self.old.log.faults self.new.log.faults }
         ensures state { self.new ≡ disk_after DiskCall.Sync [] self.old }

@@ -66,13 +66,15 @@ two_plain : (m n : ℕ) → m ≤ 4294967295 → n ≤ 4294967295 → list_all n
 two_plain m n few small = ap₂ (λ a b. a && b) (number_plain m (omega (arith, few))) (one_plain n small)
 
 parameters_plain : (s : Space) → IsTrue (fits s) → list_all names_file (parameters_of s) ≡ true
-parameters_plain (L1 dim most) h = two_plain dim most (grind (arith, nat_tests, h)) (factor dim most (grind (arith, nat_tests, h)) (grind (arith, nat_tests, h)))
+parameters_plain (L1 dim most) h = two_plain dim most (grind (arith, nat_tests, h))
+    (factor dim most (grind (arith, nat_tests, h)) (grind (arith, nat_tests, h)))
 parameters_plain (LInf dim most) h = two_plain dim most (grind (arith, nat_tests, h)) (grind (arith, nat_tests, h))
 parameters_plain (Hamming len) h = one_plain len (grind (arith, nat_tests, h))
 parameters_plain (Sets universe most) h = two_plain universe most (grind (arith, nat_tests, h)) (grind (arith, nat_tests, h))
 
 -- a kind, its parameters and perhaps more
-kinds_plain : (s : Space) (more : List (List ℕ)) → IsTrue (fits s) → list_all names_file more ≡ true → list_all names_file (kind_of s ∷ (parameters_of s ++ more)) ≡ true
+kinds_plain : (s : Space) (more : List (List ℕ)) → IsTrue (fits s) → list_all names_file more ≡ true
+    → list_all names_file (kind_of s ∷ (parameters_of s ++ more)) ≡ true
 kinds_plain s more h rest =
     ap₂ (λ a b. a && b) (kind_plain s)
     (list_all-append names_file (parameters_of s) more ∙ ap₂ (λ a b. a && b) (parameters_plain s h) rest)
@@ -85,8 +87,10 @@ spelled_plain words (Mem setup) (fit, few, inr is) =
     ap (list_all names_file) is ∙ kinds_plain setup.space (decimal setup.pivots ∷ []) fit (one_plain setup.pivots (omega (arith, few)))
 spelled_plain words (Make curve pivots cap space) (fit, some, few, one, room, (file, named, is)) =
     ap (list_all names_file) is
-    ∙ ap₂ (λ a b. a && (b && (names_file (decimal pivots) && (names_file (decimal cap) && (names_file (kind_of space) && list_all names_file (parameters_of space)))))) named (curve_plain curve)
-    ∙ ap₂ (λ a b. a && (b && (names_file (kind_of space) && list_all names_file (parameters_of space)))) (number_plain pivots (omega (arith, few))) (number_plain cap (omega (arith, room)))
+    ∙ ap₂ (λ a b. a && (b && (names_file (decimal pivots)
+        && (names_file (decimal cap) && (names_file (kind_of space) && list_all names_file (parameters_of space)))))) named (curve_plain curve)
+    ∙ ap₂ (λ a b. a && (b && (names_file (kind_of space) && list_all names_file (parameters_of space)))) (number_plain pivots (omega (arith, few)))
+        (number_plain cap (omega (arith, room)))
     ∙ ap₂ (λ a b. a && b) (kind_plain space) (parameters_plain space fit)
 spelled_plain words Run (file, named, is) = ap (list_all names_file) is ∙ ap (λ b. b && true) named
 spelled_plain words Check (file, named, is) = ap (list_all names_file) is ∙ ap (λ b. b && true) named
@@ -115,7 +119,8 @@ each_plain text (w ∷ words) all =
 pub all_plain : {W : Type 0} (text : W → List ℕ) (words : List W) → list_all names_file (map text words) ≡ true → All (λ w. IsTrue (names_file (text w))) words
 all_plain text [] plain k d low = absurd (omega arith)
 all_plain text (w ∷ words) plain zero d low = (both (names_file (text w)) (list_all names_file (map text words)) plain).0
-all_plain text (w ∷ words) plain (suc k) d low = all_plain text words (both (names_file (text w)) (list_all names_file (map text words)) plain).1 k d (omega arith)
+all_plain text (w ∷ words) plain (suc k) d low =
+    all_plain text words (both (names_file (text w)) (list_all names_file (map text words)) plain).1 k d (omega arith)
 
 -- the store in memory that the words ask for can be made
 pub asked_fits : (words : List (List ℕ)) (setup : MemorySetup) → asked_of words ≡ Some (Mem setup) → IsTrue (fits setup.space) × (setup.pivots ≤ 8)

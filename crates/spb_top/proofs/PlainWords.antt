@@ -10,7 +10,8 @@ use Rattle.clap.specs.Kinds.{Kinds, or_else}
 use Rattle.clap.specs.Faults.{check_fault, defaults_fault, level_fault, other_fault, positional_fault, settle_fault, stray_fault, turn_fault, walk_fault}
 
 -- a fold that only lengthens a list
-pub folded : {A B : Type 0} (f : A → B → A) (at : List B → A) → ((xs : List B) (x : B) → f (at xs) x ≡ at (xs ++ x ∷ [])) → (xs ys : List B) → fold f (at xs) ys ≡ at (xs ++ ys)
+pub folded : {A B : Type 0} (f : A → B → A) (at : List B → A) → ((xs : List B) (x : B) → f (at xs) x ≡ at (xs ++ x ∷ [])) → (xs ys : List B)
+    → fold f (at xs) ys ≡ at (xs ++ ys)
 folded f at step xs [] = ap at (sym (append-nil xs))
 folded f at step xs (y ∷ ys) = ap (λ a. fold f a ys) (step xs y) ∙ folded f at step (xs ++ y ∷ []) ys ∙ ap at (append_assoc xs (y ∷ []) ys)
 
@@ -76,11 +77,13 @@ trails_not (a ∷ c) p none =
     let parts = both (not a.trailing_var_arg) (list_all (λ a. not a.trailing_var_arg) c) none in
     go (p a) (no_dash a.trailing_var_arg parts.0) (trails_not c p parts.1)
   where
-    go : (b : Bool) → a.trailing_var_arg ≡ false → IfSome (find p c) (λ a. a.trailing_var_arg ≡ false) → IfSome (if b then Some a else find p c) (λ a. a.trailing_var_arg ≡ false)
+    go : (b : Bool) → a.trailing_var_arg ≡ false → IfSome (find p c) (λ a. a.trailing_var_arg ≡ false)
+        → IfSome (if b then Some a else find p c) (λ a. a.trailing_var_arg ≡ false)
     go true here later = here
     go false here later = later
 
-taken_is : (c : List Rule) (o : Option Rule) (word : Text) (p : Place) → IfSome o (λ a. a.trailing_var_arg ≡ false) → to_positional c o word (walk_at p) p.held ≡ walk_at (taken c o word p)
+taken_is : (c : List Rule) (o : Option Rule) (word : Text) (p : Place) → IfSome o (λ a. a.trailing_var_arg ≡ false)
+    → to_positional c o word (walk_at p) p.held ≡ walk_at (taken c o word p)
 taken_is c None word p none = refl
 taken_is c (Some a) word p none = ap (λ b. record (walk_at (taken c (Some a) word p)) { is_trailing = b }) none
 
@@ -89,7 +92,8 @@ unfolding walked
 moved_is c p word none plain =
     by p.several p.held p.position
   where
-    by : (several : Bool) (h : Held) (position : ℕ) → walked c [] (walk_at (record { held = h; several = several; position = position })) word ≡ walk_at (moved c (record { held = h; several = several; position = position }) word)
+    by : (several : Bool) (h : Held) (position : ℕ) → walked c [] (walk_at (record { held = h; several = several; position = position })) word
+        ≡ walk_at (moved c (record { held = h; several = several; position = position }) word)
     by true h position =
         ap (λ met. after_step c word (walk_at (record { held = h; several = true; position = position })) met.0 met.1) (is_value c true position word h plain)
         ∙ taken_is c (arg_by_index c position) word (record { held = h; several = true; position = position }) (trails_not c _ none)
@@ -97,7 +101,8 @@ moved_is c p word none plain =
         ap (λ met. after_step c word (walk_at (record { held = h; several = false; position = position })) met.0 met.1) (is_value c false position word h plain)
         ∙ taken_is c (arg_by_index c position) word (record { held = h; several = false; position = position }) (trails_not c _ none)
 
-pub walk_is : (c : List Rule) (p : Place) (words : List Text) → NoneTrails c → list_all names_file words ≡ true → fold (walked c []) (walk_at p) words ≡ walk_at (fold (moved c) p words)
+pub walk_is : (c : List Rule) (p : Place) (words : List Text) → NoneTrails c → list_all names_file words ≡ true
+    → fold (walked c []) (walk_at p) words ≡ walk_at (fold (moved c) p words)
 walk_is c p [] none plain = refl
 walk_is c p (word ∷ words) none plain =
     let parts = both (names_file word) (list_all names_file words) plain in
@@ -106,11 +111,13 @@ walk_is c p (word ∷ words) none plain =
 turn_is : (s : Shape) (p : Place) (word : Text) → names_file word ≡ true → turn_fault s [] (walk_at p) word ≡ move_fault s p
 turn_is s p word plain = by p.several p.held p.position
   where
-    by : (several : Bool) (h : Held) (position : ℕ) → turn_fault s [] (walk_at (record { held = h; several = several; position = position })) word ≡ move_fault s (record { held = h; several = several; position = position })
+    by : (several : Bool) (h : Held) (position : ℕ) → turn_fault s [] (walk_at (record { held = h; several = several; position = position })) word
+        ≡ move_fault s (record { held = h; several = several; position = position })
     by true h position = simp (is_no_fault s word h plain, is_value s.rules true position word h plain)
     by false h position = simp (is_no_fault s word h plain, is_value s.rules false position word h plain)
 
-pub walk_fault_is : (s : Shape) (p : Place) (words : List Text) → NoneTrails s.rules → list_all names_file words ≡ true → walk_fault s [] (walk_at p) words ≡ moves_fault s p words
+pub walk_fault_is : (s : Shape) (p : Place) (words : List Text) → NoneTrails s.rules → list_all names_file words ≡ true
+    → walk_fault s [] (walk_at p) words ≡ moves_fault s p words
 unfolding walk_fault
 walk_fault_is s p [] none plain = refl
 walk_fault_is s p (word ∷ words) none plain =
@@ -120,7 +127,8 @@ walk_fault_is s p (word ∷ words) none plain =
 
 -- ---- the command itself
 
-pub rows_is : (c : List Rule) (words : List Text) → NoneTrails c → list_all names_file words ≡ true → rows_after c [] words ≡ finished c (fold (moved c) start words).held
+pub rows_is : (c : List Rule) (words : List Text) → NoneTrails c → list_all names_file words ≡ true
+    → rows_after c [] words ≡ finished c (fold (moved c) start words).held
 rows_is c words none plain = ap (λ (w : Walk). finished c w.held) (walk_is c start words none plain)
 
 -- what fails after the walk
@@ -130,4 +138,5 @@ end_fault s h =
 
 pub level_is : (s : Shape) (words : List Text) → NoneTrails s.rules → list_all names_file words ≡ true
     → level_fault s [] nothing_held words false [] ≡ or_else (moves_fault s start words) (end_fault s (fold (moved s.rules) start words).held)
-level_is s words none plain = ap₂ (λ k (w : Walk). or_else k (end_fault s w.held)) (walk_fault_is s start words none plain) (walk_is s.rules start words none plain)
+level_is s words none plain = ap₂ (λ k (w : Walk). or_else k (end_fault s w.held)) (walk_fault_is s start words none plain)
+    (walk_is s.rules start words none plain)

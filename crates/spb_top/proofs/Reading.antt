@@ -41,7 +41,8 @@ entering name rest = record { held = nothing_held; waiting = idle; position = 1;
 walk_of : (name : Text) (rest : List Text) → subcommand_met names idle name ≡ Some name → walk [] names nothing_held (name ∷ rest) ≡ entering name rest
 unfolding walked
 walk_of name rest met =
-    ap (λ o. let step = subcommand_or_other [] o idle 1 name nothing_held in fold (walked [] names) (after_step [] name (walk_from nothing_held) step.0 step.1) rest) met
+    ap (λ o. let step = subcommand_or_other [] o idle 1 name nothing_held in
+        fold (walked [] names) (after_step [] name (walk_from nothing_held) step.0 step.1) rest) met
     ∙ folded (walked [] names) (entering name) (λ words word. refl) [] rest
 
 entered_without_fault : (s : Shape) (name : Text) (words rest : List Text) → walk_fault s names (entering name words) rest ≡ []
@@ -53,7 +54,8 @@ entered_without_fault s name words (word ∷ rest) = entered_without_fault s nam
 abbrev program_fault : Kinds → Walk → Kinds
 program_fault first w =
     or_else first (or_else (entered_fault program w.stopped) (or_else (settle_fault program.top.rules program.top.args_override_self w.held)
-    (or_else (defaults_fault (settled program.top.rules w.held).rows program.top.rules) (check_fault program.top (finished program.top.rules w.held) (is_some (entered program w.stopped))))))
+    (or_else (defaults_fault (settled program.top.rules w.held).rows program.top.rules)
+        (check_fault program.top (finished program.top.rules w.held) (is_some (entered program w.stopped))))))
 
 -- the subcommands in their order
 abbrev sub : ℕ → Shape
@@ -71,15 +73,18 @@ pub record Enters (name : Text) (s : Shape) (rest : List Text) : Type 0 where
   pub fault : fault_of command_spb (name ∷ rest) ≡ sub_fault s rest
   pub rows : subcommand_of command_spb (name ∷ rest) ≡ Some (name, sub_rows s rest)
 
-first_fault : (name : Text) (rest : List Text) → subcommand_met names idle name ≡ Some name → other_fault program.top (Some name) name nothing_held ≡ [] → walk_fault program.top names (walk_from nothing_held) (name ∷ rest) ≡ []
+first_fault : (name : Text) (rest : List Text) → subcommand_met names idle name ≡ Some name → other_fault program.top (Some name) name nothing_held ≡ []
+    → walk_fault program.top names (walk_from nothing_held) (name ∷ rest) ≡ []
 unfolding walk_fault walked
 first_fault name rest met other =
     ap (λ o. let step = subcommand_or_other [] o idle 1 name nothing_held in
-    or_else (or_else (other_fault program.top o name nothing_held) (step_fault program.top 1 step.0 step.1)) (walk_fault program.top names (after_step [] name (walk_from nothing_held) step.0 step.1) rest)) met
+    or_else (or_else (other_fault program.top o name nothing_held) (step_fault program.top 1 step.0 step.1))
+        (walk_fault program.top names (after_step [] name (walk_from nothing_held) step.0 step.1) rest)) met
     ∙ ap (λ k. or_else (or_else k []) (walk_fault program.top names (entering name []) rest)) other ∙ entered_without_fault program.top name [] rest
 
 -- by what computes of a name and its subcommand
-enters : (name : Text) (s : Shape) → subcommand_met names idle name ≡ Some name → other_fault program.top (Some name) name nothing_held ≡ [] → NoneTrails s.rules
+enters : (name : Text) (s : Shape) → subcommand_met names idle name ≡ Some name → other_fault program.top (Some name) name nothing_held ≡ []
+    → NoneTrails s.rules
     → ((rest : List Text) → program_fault [] (entering name rest) ≡ or_else (level_fault s [] nothing_held rest false []) [])
     → ((rest : List Text) → entered program (Some (name, rest)) ≡ Some (name, rows_after s.rules [] rest))
     → (rest : List Text) → list_all names_file rest ≡ true → Enters name s rest
@@ -129,7 +134,8 @@ unfolding asked_of defaults_fault
 reads_mem [] plain none = absurd (fails none)
 reads_mem (kind ∷ []) plain none = absurd (fails none)
 reads_mem (kind ∷ first ∷ more) plain none =
-    ap (λ (p : Place). words_matched (codes "mem") (finished (sub 0).rules p.held)) (folded (moved (sub 0).rules) (mem_at kind) (λ words word. refl) (first ∷ []) more)
+    ap (λ (p : Place). words_matched (codes "mem") (finished (sub 0).rules p.held))
+        (folded (moved (sub 0).rules) (mem_at kind) (λ words word. refl) (first ∷ []) more)
 
 abbrev make_at : Text → Text → Text → Text → Text → List Text → Place
 make_at file curve pivots cap kind parameters = record {
@@ -143,11 +149,14 @@ named file words plain = (both (names_file file) (list_all names_file words) pla
 
 -- the words of `make` and of `trial`, after a name that can be a file's
 make_is : (file curve pivots cap kind : Text) (parameters : List Text) → names_file file ≡ true
-    → option_and_then (λ c. option_and_then (λ p. option_and_then (λ n. option_map (λ s. Make c p n s) (space_in kind parameters)) (positive_in MEMORY_CAP cap)) (positive_in PIVOT_LIMIT pivots)) (curve_in curve)
+    → option_and_then (λ c. option_and_then (λ p. option_and_then (λ n. option_map (λ s. Make c p n s) (space_in kind parameters))
+        (positive_in MEMORY_CAP cap)) (positive_in PIVOT_LIMIT pivots)) (curve_in curve)
     ≡ asked_of (codes "make" ∷ file ∷ curve ∷ pivots ∷ cap ∷ kind ∷ parameters)
 unfolding asked_of
 make_is file curve pivots cap kind parameters named =
-    sym (ap (λ b. if b then option_and_then (λ c. option_and_then (λ p. option_and_then (λ n. option_map (λ s. Make c p n s) (space_in kind parameters)) (positive_in MEMORY_CAP cap)) (positive_in PIVOT_LIMIT pivots)) (curve_in curve) else None) named)
+    sym (ap (λ b. if b then option_and_then (λ c. option_and_then
+        (λ p. option_and_then (λ n. option_map (λ s. Make c p n s) (space_in kind parameters)) (positive_in MEMORY_CAP cap)) (positive_in PIVOT_LIMIT pivots))
+        (curve_in curve) else None) named)
 
 trial_is : (file seed count : Text) → names_file file ≡ true
     → option_and_then (λ s. option_map (λ n. Trial s n) (positive_in MEMORY_CAP count)) (number_of seed) ≡ asked_of (codes "trial" ∷ file ∷ seed ∷ count ∷ [])
@@ -164,7 +173,8 @@ reads_make (file ∷ curve ∷ pivots ∷ []) plain none = absurd (fails none)
 reads_make (file ∷ curve ∷ pivots ∷ cap ∷ []) plain none = absurd (fails none)
 reads_make (file ∷ curve ∷ pivots ∷ cap ∷ kind ∷ []) plain none = absurd (fails none)
 reads_make (file ∷ curve ∷ pivots ∷ cap ∷ kind ∷ first ∷ more) plain none =
-    ap (λ (p : Place). words_matched (codes "make") (finished (sub 1).rules p.held)) (folded (moved (sub 1).rules) (make_at file curve pivots cap kind) (λ words word. refl) (first ∷ []) more)
+    ap (λ (p : Place). words_matched (codes "make") (finished (sub 1).rules p.held))
+        (folded (moved (sub 1).rules) (make_at file curve pivots cap kind) (λ words word. refl) (first ∷ []) more)
     ∙ make_is file curve pivots cap kind (first ∷ more) (named file (curve ∷ pivots ∷ cap ∷ kind ∷ first ∷ more) plain)
 
 reads_run : Reads (codes "run") (sub 2)
@@ -203,25 +213,35 @@ no_subcommand : (name : Text) (rest : List Text) → names_file name ≡ true �
 unfolding walk_fault walked
 no_subcommand name rest plain met none =
     let first : turn_fault program.top names (walk_from nothing_held) name ≡ stray_fault program.top =
-    ap (λ o. let step = subcommand_or_other [] o idle 1 name nothing_held in or_else (other_fault program.top o name nothing_held) (step_fault program.top 1 step.0 step.1)) met
-    ∙ ap₂ (λ k step. or_else k (step_fault program.top 1 step.0 step.1)) (is_no_fault program.top name nothing_held plain) (is_value [] false 1 name nothing_held plain) in
-    fails (sym (ap (λ k. program_fault (or_else k (walk_fault program.top names (walked [] names (walk_from nothing_held) name) rest)) (walk [] names nothing_held (name ∷ rest))) first) ∙ none)
+    ap (λ o. let step = subcommand_or_other [] o idle 1 name nothing_held in
+        or_else (other_fault program.top o name nothing_held) (step_fault program.top 1 step.0 step.1)) met
+    ∙ ap₂ (λ k step. or_else k (step_fault program.top 1 step.0 step.1)) (is_no_fault program.top name nothing_held plain)
+        (is_value [] false 1 name nothing_held plain) in
+    fails (sym (ap (λ k. program_fault (or_else k (walk_fault program.top names (walked [] names (walk_from nothing_held) name) rest))
+        (walk [] names nothing_held (name ∷ rest))) first) ∙ none)
 
 pub is_read : (words : List Text) → list_all names_file words ≡ true → IsRead words
 unfolding asked_of walked
 is_read [] plain none = refl
 is_read (name ∷ rest) plain none =
     let parts = both (names_file name) (list_all names_file rest) plain in
-    go (bytes_eq (codes "mem") name) (bytes_eq (codes "make") name) (bytes_eq (codes "run") name) (bytes_eq (codes "check") name) (bytes_eq (codes "trial") name) parts.0 parts.1 refl refl refl refl refl none
+    go (bytes_eq (codes "mem") name) (bytes_eq (codes "make") name) (bytes_eq (codes "run") name) (bytes_eq (codes "check") name)
+        (bytes_eq (codes "trial") name) parts.0 parts.1 refl refl refl refl refl none
   where
     go : (mem make run check trial : Bool) → names_file name ≡ true → list_all names_file rest ≡ true
-        → bytes_eq (codes "mem") name ≡ mem → bytes_eq (codes "make") name ≡ make → bytes_eq (codes "run") name ≡ run → bytes_eq (codes "check") name ≡ check → bytes_eq (codes "trial") name ≡ trial
+        → bytes_eq (codes "mem") name ≡ mem → bytes_eq (codes "make") name ≡ make → bytes_eq (codes "run") name ≡ run → bytes_eq (codes "check") name ≡ check
+            → bytes_eq (codes "trial") name ≡ trial
         → IsRead (name ∷ rest)
-    go true make run check trial one all e1 e2 e3 e4 e5 = by_name name (codes "mem") (λ n. IsRead (n ∷ rest)) e1 (entered_read (codes "mem") (sub 0) rest all (enters_mem rest all) reads_mem)
-    go false true run check trial one all e1 e2 e3 e4 e5 = by_name name (codes "make") (λ n. IsRead (n ∷ rest)) e2 (entered_read (codes "make") (sub 1) rest all (enters_make rest all) reads_make)
-    go false false true check trial one all e1 e2 e3 e4 e5 = by_name name (codes "run") (λ n. IsRead (n ∷ rest)) e3 (entered_read (codes "run") (sub 2) rest all (enters_run rest all) reads_run)
-    go false false false true trial one all e1 e2 e3 e4 e5 = by_name name (codes "check") (λ n. IsRead (n ∷ rest)) e4 (entered_read (codes "check") (sub 3) rest all (enters_check rest all) reads_check)
-    go false false false false true one all e1 e2 e3 e4 e5 = by_name name (codes "trial") (λ n. IsRead (n ∷ rest)) e5 (entered_read (codes "trial") (sub 4) rest all (enters_trial rest all) reads_trial)
+    go true make run check trial one all e1 e2 e3 e4 e5 =
+        by_name name (codes "mem") (λ n. IsRead (n ∷ rest)) e1 (entered_read (codes "mem") (sub 0) rest all (enters_mem rest all) reads_mem)
+    go false true run check trial one all e1 e2 e3 e4 e5 =
+        by_name name (codes "make") (λ n. IsRead (n ∷ rest)) e2 (entered_read (codes "make") (sub 1) rest all (enters_make rest all) reads_make)
+    go false false true check trial one all e1 e2 e3 e4 e5 =
+        by_name name (codes "run") (λ n. IsRead (n ∷ rest)) e3 (entered_read (codes "run") (sub 2) rest all (enters_run rest all) reads_run)
+    go false false false true trial one all e1 e2 e3 e4 e5 =
+        by_name name (codes "check") (λ n. IsRead (n ∷ rest)) e4 (entered_read (codes "check") (sub 3) rest all (enters_check rest all) reads_check)
+    go false false false false true one all e1 e2 e3 e4 e5 =
+        by_name name (codes "trial") (λ n. IsRead (n ∷ rest)) e5 (entered_read (codes "trial") (sub 4) rest all (enters_trial rest all) reads_trial)
     go false false false false false one all e1 e2 e3 e4 e5 = λ none. absurd (no_subcommand name rest one (rw (e1, e2, e3, e4, e5) refl) none)
 
 -- ---- words that ask for something have no fault
@@ -260,14 +280,17 @@ unfolding defaults_fault
 passes_trial file seed count = refl
 
 -- the words pass if those after the name do
-entered_passes : (words rest : List Text) (name : Text) (s : Shape) → words ≡ name ∷ rest → list_all names_file words ≡ true → (list_all names_file rest ≡ true → Enters name s rest) → sub_fault s rest ≡ [] → fault_of command_spb words ≡ []
+entered_passes : (words rest : List Text) (name : Text) (s : Shape) → words ≡ name ∷ rest → list_all names_file words ≡ true
+    → (list_all names_file rest ≡ true → Enters name s rest) → sub_fault s rest ≡ [] → fault_of command_spb words ≡ []
 entered_passes words rest name s is plain enters none =
     let all : list_all names_file (name ∷ rest) ≡ true = sym (ap (list_all names_file) is) ∙ plain in
     ap (fault_of command_spb) is ∙ (enters (both (names_file name) (list_all names_file rest) all).1).fault ∙ none
 
 spelled_passes : (words : List Text) (a : Asked) → list_all names_file words ≡ true → AreWordsFor words a → fault_of command_spb words ≡ []
-spelled_passes words (Mem setup) plain (fit, few, inl (none, is)) = entered_passes words _ (codes "mem") (sub 0) is plain (enters_mem _) (passes_mem setup.space)
-spelled_passes words (Mem setup) plain (fit, few, inr is) = entered_passes words _ (codes "mem") (sub 0) is plain (enters_mem _) (passes_pivots setup.space setup.pivots)
+spelled_passes words (Mem setup) plain (fit, few, inl (none, is)) =
+    entered_passes words _ (codes "mem") (sub 0) is plain (enters_mem _) (passes_mem setup.space)
+spelled_passes words (Mem setup) plain (fit, few, inr is) =
+    entered_passes words _ (codes "mem") (sub 0) is plain (enters_mem _) (passes_pivots setup.space setup.pivots)
 spelled_passes words (Make curve pivots cap space) plain (fit, some, few, one, room, (file, named, is)) =
     entered_passes words _ (codes "make") (sub 1) is plain (enters_make _) (passes_make file (curve_word curve) (decimal pivots) (decimal cap) space)
 spelled_passes words Run plain (file, named, is) = entered_passes words _ (codes "run") (sub 2) is plain (enters_run _) (passes_run file)
@@ -281,18 +304,22 @@ pub is_free : is_simple_and_free command_spb ≡ true
 is_free = refl
 
 -- what the matches of a parse ask for
-pub matches_ask : (app : App) (words : List Text) (r : Result ArgMatches Error) (m : ArgMatches) → app ≡ command_spb → list_all names_file words ≡ true → r ≡ Ok m
+pub matches_ask : (app : App) (words : List Text) (r : Result ArgMatches Error) (m : ArgMatches) → app ≡ command_spb → list_all names_file words ≡ true
+    → r ≡ Ok m
     → IfOk r (HasMatchesOf app words) → (is_simple_and_free app ≡ true → FailsBy (fault_of app words) r) → asked_matched (subcommand_rows_of m) ≡ asked_of words
 matches_ask app words r m is plain ok matches kinds =
     let has : HasMatchesOf command_spb words m = subst (λ a. HasMatchesOf a words m) is (subst (λ r. IfOk r (HasMatchesOf app words)) ok matches) in
-    let none : FailsBy (fault_of command_spb words) (Ok m) = subst (λ r. FailsBy (fault_of command_spb words) r) ok (subst (λ a. is_simple_and_free a ≡ true → FailsBy (fault_of a words) r) is kinds is_free) in
+    let none : FailsBy (fault_of command_spb words) (Ok m) =
+        subst (λ r. FailsBy (fault_of command_spb words) r) ok (subst (λ a. is_simple_and_free a ≡ true → FailsBy (fault_of a words) r) is kinds is_free) in
     ap asked_matched (has refl).1 ∙ is_read words plain none
 
 -- if a parse fails, but not because memory ran out, the words ask for nothing
-pub refusal_asks_nothing : (app : App) (words : List Text) (r : Result ArgMatches Error) (e : Error) → app ≡ command_spb → list_all names_file words ≡ true → r ≡ Err e
+pub refusal_asks_nothing : (app : App) (words : List Text) (r : Result ArgMatches Error) (e : Error) → app ≡ command_spb → list_all names_file words ≡ true
+    → r ≡ Err e
     → (is_simple_and_free app ≡ true → FailsBy (fault_of app words) r) → (error_kind e ≡ OutOfMemory → ⊥) → asked_of words ≡ None
 refusal_asks_nothing app words r e is plain err kinds other =
-    let fails_by : HasKind (fault_of command_spb words) e = subst (λ r. FailsBy (fault_of command_spb words) r) err (subst (λ a. is_simple_and_free a ≡ true → FailsBy (fault_of a words) r) is kinds is_free) in
+    let fails_by : HasKind (fault_of command_spb words) e =
+        subst (λ r. FailsBy (fault_of command_spb words) r) err (subst (λ a. is_simple_and_free a ≡ true → FailsBy (fault_of a words) r) is kinds is_free) in
     go (asked_of words) refl fails_by
   where
     go : (o : Option Asked) → asked_of words ≡ o → HasKind (fault_of command_spb words) e → o ≡ None

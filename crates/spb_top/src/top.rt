@@ -29,7 +29,8 @@ fn dispatch_on_space<S: Source, K: Sink>(
         → WritesReplies result (first_state setup) script (S.left input.new) (K.taken output.old) (K.taken output.new) }
     ensures input { (script : List ℕ) → S.left input.old ≡ Some script → LeavesInput result script (S.left input.new) }
     // No disk is touched, however many faults it had counted.
-    ensures cause { (counted : ℕ) → HasCause result (outside_of S.left S.faults K.faults (λ (faults : ℕ). faults) input.old input.new output.old output.new counted counted) }
+    ensures cause { (counted : ℕ) → HasCause result
+        (outside_of S.left S.faults K.faults (λ (faults : ℕ). faults) input.old input.new output.old output.new counted counted) }
     ensures no_usage { result ≢ Status.Usage }
 {
     // an arm for each kind of space, with the metric that has its numbers
@@ -65,7 +66,8 @@ fn serve_input<M: Metric, S: Source, K: Sink>(
         → WritesReplies result (first_state setup) script (S.left input.new) (K.taken output.old) (K.taken output.new) }
     ensures input { (script : List ℕ) → S.left input.old ≡ Some script → LeavesInput result script (S.left input.new) }
     // No disk is touched, however many faults it had counted.
-    ensures cause { (counted : ℕ) → HasCause result (outside_of S.left S.faults K.faults (λ (faults : ℕ). faults) input.old input.new output.old output.new counted counted) }
+    ensures cause { (counted : ℕ) → HasCause result
+        (outside_of S.left S.faults K.faults (λ (faults : ℕ). faults) input.old input.new output.old output.new counted counted) }
     ensures no_usage { result ≢ Status.Usage }
 {
     let Ok(mut session) = MemSession::new(alloc, setup.space, metric, setup.pivots) else {

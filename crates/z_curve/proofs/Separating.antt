@@ -31,7 +31,8 @@ gathered-longer n (suc b) c k small =
     ap (λ t. gathered n t k) count ∙ gathered-suc n (b + c) k ∙ ap (λ t. 2 * t + k % 2) (gathered-longer n b c (k / 2 ^ n) below) ∙ sym (gathered-suc n b k)
 
 -- a list that has the coordinates at their places is the cell
-cell_by_places : (n b m k : ℕ) (v : List ℕ) → length v ≡ m → ((i : ℕ) → i < m → get_or v i 0 ≡ gathered n b (k / 2 ^ (m - 1 - i))) → v ≡ last_coordinates n b m k
+cell_by_places : (n b m k : ℕ) (v : List ℕ) → length v ≡ m → ((i : ℕ) → i < m → get_or v i 0 ≡ gathered n b (k / 2 ^ (m - 1 - i)))
+    → v ≡ last_coordinates n b m k
 unfolding last_coordinates
 cell_by_places n b zero k [] long each = refl
 cell_by_places n b zero k (x ∷ xs) long each = absurd (omega arith)
@@ -44,7 +45,8 @@ cell_by_places n b (suc m) k (x ∷ xs) long each =
     each (suc i) (omega arith) ∙ ap (λ t. gathered n b (k / 2 ^ t)) next) in
     cc
 
-pub separated : (n b k : ℕ) (v : List ℕ) → IsKey n b k → length v ≡ n → ((i : ℕ) → i < n → get_or v i 0 ≡ gathered n (most_bits n) (k / 2 ^ (n - 1 - i))) → v ≡ z_cell n b k
+pub separated : (n b k : ℕ) (v : List ℕ) → IsKey n b k → length v ≡ n → ((i : ℕ) → i < n → get_or v i 0 ≡ gathered n (most_bits n) (k / 2 ^ (n - 1 - i)))
+    → v ≡ z_cell n b k
 separated n b k v key long each =
     let room : b + (most_bits n - b) ≡ most_bits n = omega (arith, bits-fit n b key.grid) in
     cell_by_places n b n k v long (λ i h.

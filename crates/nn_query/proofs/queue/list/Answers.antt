@@ -18,4 +18,5 @@ loop-place-preserved c =
     ap (map turned_back) c.in_ok-push.ensures.items ∙ map-append turned_back _ _
     ∙ ap (λ items. items ++ as_waiting this ∷ []) c.loop-place.invariant
     ∙ sym (map-append as_waiting passed (this ∷ []))
-    ∙ ap (map as_waiting) (candidates_for-more c.args.asked.now c.args.rows.now place c.lower.result row c.loop-place-test.true c.index-rows-place.is c.lower.ensures)
+    ∙ ap (map as_waiting) (candidates_for-more c.args.asked.now c.args.rows.now place c.lower.result row c.loop-place-test.true c.index-rows-place.is
+        c.lower.ensures)

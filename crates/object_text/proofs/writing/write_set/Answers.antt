@@ -12,4 +12,5 @@ returns-then-is_empty c =
 pub returns : goal.returns
 returns c =
     let some : length c.args.object.now ≡ 0 → ⊥ = grind (arith, nat_tests) in
-    subst (λ (t : List ℕ). OnOk c.write_numbers.result (c.write_numbers.new.text ≡ c.args.text.now ++ t)) (set_text-some c.args.object.now (grind arith)) c.write_numbers.ensures
+    subst (λ (t : List ℕ). OnOk c.write_numbers.result (c.write_numbers.new.text ≡ c.args.text.now ++ t)) (set_text-some c.args.object.now (grind arith))
+        c.write_numbers.ensures

@@ -15,5 +15,6 @@ invariant-loop-place g l =
       rise : (k : ℕ) → slice_index l.worths k ≤ slice_index l.fn.worths k + 4294967295;
       kind_is : g.R.Ruler.kind l.ruler ≡ kind;
       count_is : g.R.Ruler.count l.ruler ≡ g.R.Ruler.count l.fn.ruler + count_by is_unchosen (take l.place l.fn.worths);
-      grew : LogExtends (g.R.Ruler.log l.fn.ruler) (g.R.Ruler.log l.ruler) (each_with (sample_at l.sample l.chosen) (unchosen_among_first l.fn.worths l.sample l.place));
+      grew : LogExtends (g.R.Ruler.log l.fn.ruler) (g.R.Ruler.log l.ruler)
+          (each_with (sample_at l.sample l.chosen) (unchosen_among_first l.fn.worths l.sample l.place));
     }

@@ -12,7 +12,8 @@ loop-place-preserved c =
     let kept = c.loop-place.invariant in
     elim c.if-worth-most.branch [
       | then-worth-most w ↦ (let step = step-rises c.args.worths.now c.loop-place.place c.loop-place.most (omega arith) kept.0 w.if-worth-most.true in (cc, cc))
-      | else-worth-most w ↦ (let step = step-stays c.args.worths.now c.loop-place.place c.loop-place.most c.loop-place.best (omega arith) kept.0 kept.1 w.if-worth-most.false in (cc, cc))
+      | else-worth-most w ↦ (let step = step-stays c.args.worths.now c.loop-place.place c.loop-place.most c.loop-place.best (omega arith)
+          kept.0 kept.1 w.if-worth-most.false in (cc, cc))
     ]
 
 pub returns-clause-within : goal.returns-clause-within

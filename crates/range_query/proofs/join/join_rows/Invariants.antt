@@ -14,5 +14,6 @@ invariant-loop-i g l =
       whole : seen ++ passed l.same (drop l.i l.left) l.right ≡ passed l.same l.left l.right;
       same_kind : ruler.kind l.ruler ≡ kind;
       found : PassesOver (verdict_of_pair (ruler.dist kind) l.r) pair_ids seen l.initial.found l.found;
-      measured : MeasuresOpen (verdict_of_pair (ruler.dist kind) l.r) pair_objects seen (ruler.count l.fn.ruler) (ruler.log l.fn.ruler) (ruler.count l.ruler) (ruler.log l.ruler);
+      measured : MeasuresOpen (verdict_of_pair (ruler.dist kind) l.r) pair_objects seen (ruler.count l.fn.ruler) (ruler.log l.fn.ruler) (ruler.count l.ruler)
+          (ruler.log l.ruler);
     }

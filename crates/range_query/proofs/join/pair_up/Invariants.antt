@@ -12,5 +12,6 @@ invariant-loop-other g l =
     let seen = pairs_of l.same (take l.other-index l.others) l.row in record {
       same_kind : ruler.kind l.ruler ≡ kind;
       found : PassesOver (verdict_of_pair (ruler.dist kind) l.r) pair_ids seen l.fn.found l.found;
-      measured : MeasuresOpen (verdict_of_pair (ruler.dist kind) l.r) pair_objects seen (ruler.count l.fn.ruler) (ruler.log l.fn.ruler) (ruler.count l.ruler) (ruler.log l.ruler);
+      measured : MeasuresOpen (verdict_of_pair (ruler.dist kind) l.r) pair_objects seen (ruler.count l.fn.ruler) (ruler.log l.fn.ruler) (ruler.count l.ruler)
+          (ruler.log l.ruler);
     }

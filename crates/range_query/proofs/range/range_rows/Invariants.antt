@@ -11,5 +11,6 @@ invariant-loop-row g l =
     let seen = take l.row-index l.rows in record {
       same_kind : ruler.kind l.ruler ≡ kind;
       found : PassesOver (verdict_of_row (ruler.dist kind) l.asked l.q l.r) (λ row. row.id) seen l.initial.found l.found;
-      measured : MeasuresOpen (verdict_of_row (ruler.dist kind) l.asked l.q l.r) (λ row. (l.q, row.object)) seen (ruler.count l.initial.ruler) (ruler.log l.initial.ruler) (ruler.count l.ruler) (ruler.log l.ruler);
+      measured : MeasuresOpen (verdict_of_row (ruler.dist kind) l.asked l.q l.r) (λ row. (l.q, row.object)) seen (ruler.count l.initial.ruler)
+          (ruler.log l.initial.ruler) (ruler.count l.ruler) (ruler.log l.ruler);
     }

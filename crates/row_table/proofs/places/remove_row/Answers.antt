@@ -10,7 +10,8 @@ returns-in_default-clause-found c =
 
 pub returns-in_default-clause-others : goal.returns-in_default-clause-others
 returns-in_default-clause-others c =
-    all_remaining c.args.rows.now.items c.args.id (missing c.args.rows.now.items (get nat_cmp c.args.index.now) c.requires c.args.id (sym c.in_default.ensures.value))
+    all_remaining c.args.rows.now.items c.args.id
+        (missing c.args.rows.now.items (get nat_cmp c.args.index.now) c.requires c.args.id (sym c.in_default.ensures.value))
 
 pub returns-in_default-clause-indexed : goal.returns-in_default-clause-indexed
 returns-in_default-clause-indexed c =
@@ -23,7 +24,8 @@ swap_remove-removed-requires c =
 
 pub returns-then-place-len-clause-found : goal.returns-then-place-len-clause-found
 returns-then-place-len-clause-found c =
-    let goes : Goes c.args.rows.now.items c.swap_remove-removed.new.self.items c.in-Some.place c.swap_remove-removed.result c.args.id (get nat_cmp c.args.index.now) (get nat_cmp c.remove.new.self) =
+    let goes : Goes c.args.rows.now.items c.swap_remove-removed.new.self.items c.in-Some.place c.swap_remove-removed.result c.args.id
+        (get nat_cmp c.args.index.now) (get nat_cmp c.remove.new.self) =
     record {
       indexed = c.requires;
       there = sym c.in-Some.ensures.value;
@@ -35,7 +37,8 @@ returns-then-place-len-clause-found c =
 
 pub returns-then-place-len-clause-others : goal.returns-then-place-len-clause-others
 returns-then-place-len-clause-others c =
-    let goes : Goes c.args.rows.now.items c.swap_remove-removed.new.self.items c.in-Some.place c.swap_remove-removed.result c.args.id (get nat_cmp c.args.index.now) (get nat_cmp c.remove.new.self) =
+    let goes : Goes c.args.rows.now.items c.swap_remove-removed.new.self.items c.in-Some.place c.swap_remove-removed.result c.args.id
+        (get nat_cmp c.args.index.now) (get nat_cmp c.remove.new.self) =
     record {
       indexed = c.requires;
       there = sym c.in-Some.ensures.value;
@@ -50,7 +53,8 @@ returns-then-place-len-clause-others c =
 
 pub returns-then-place-len-clause-absent : goal.returns-then-place-len-clause-absent
 returns-then-place-len-clause-absent c =
-    let goes : Goes c.args.rows.now.items c.swap_remove-removed.new.self.items c.in-Some.place c.swap_remove-removed.result c.args.id (get nat_cmp c.args.index.now) (get nat_cmp c.remove.new.self) =
+    let goes : Goes c.args.rows.now.items c.swap_remove-removed.new.self.items c.in-Some.place c.swap_remove-removed.result c.args.id
+        (get nat_cmp c.args.index.now) (get nat_cmp c.remove.new.self) =
     record {
       indexed = c.requires;
       there = sym c.in-Some.ensures.value;
@@ -62,7 +66,8 @@ returns-then-place-len-clause-absent c =
 
 pub returns-then-place-len-clause-indexed : goal.returns-then-place-len-clause-indexed
 returns-then-place-len-clause-indexed c =
-    let goes : Goes c.args.rows.now.items c.swap_remove-removed.new.self.items c.in-Some.place c.swap_remove-removed.result c.args.id (get nat_cmp c.args.index.now) (get nat_cmp c.remove.new.self) =
+    let goes : Goes c.args.rows.now.items c.swap_remove-removed.new.self.items c.in-Some.place c.swap_remove-removed.result c.args.id
+        (get nat_cmp c.args.index.now) (get nat_cmp c.remove.new.self) =
     record {
       indexed = c.requires;
       there = sym c.in-Some.ensures.value;
@@ -77,7 +82,8 @@ returns-then-place-len-clause-indexed c =
 
 pub index-requires : goal.index-requires
 index-requires c =
-    let goes : Goes c.args.rows.now.items c.swap_remove-removed.new.self.items c.in-Some.place c.swap_remove-removed.result c.args.id (get nat_cmp c.args.index.now) (get nat_cmp c.remove.new.self) =
+    let goes : Goes c.args.rows.now.items c.swap_remove-removed.new.self.items c.in-Some.place c.swap_remove-removed.result c.args.id
+        (get nat_cmp c.args.index.now) (get nat_cmp c.remove.new.self) =
     record {
       indexed = c.requires;
       there = sym c.in-Some.ensures.value;
@@ -93,7 +99,8 @@ index-requires c =
 
 pub set_place-requires : goal.set_place-requires
 set_place-requires c =
-    let goes : Goes c.args.rows.now.items c.swap_remove-removed.new.self.items c.in-Some.place c.swap_remove-removed.result c.args.id (get nat_cmp c.args.index.now) (get nat_cmp c.remove.new.self) =
+    let goes : Goes c.args.rows.now.items c.swap_remove-removed.new.self.items c.in-Some.place c.swap_remove-removed.result c.args.id
+        (get nat_cmp c.args.index.now) (get nat_cmp c.remove.new.self) =
     record {
       indexed = c.requires;
       there = sym c.in-Some.ensures.value;
@@ -108,7 +115,8 @@ set_place-requires c =
 
 pub returns-clause-found : goal.returns-clause-found
 returns-clause-found c =
-    let goes : Goes c.args.rows.now.items c.swap_remove-removed.new.self.items c.in-Some.place c.swap_remove-removed.result c.args.id (get nat_cmp c.args.index.now) (get nat_cmp c.remove.new.self) =
+    let goes : Goes c.args.rows.now.items c.swap_remove-removed.new.self.items c.in-Some.place c.swap_remove-removed.result c.args.id
+        (get nat_cmp c.args.index.now) (get nat_cmp c.remove.new.self) =
     record {
       indexed = c.requires;
       there = sym c.in-Some.ensures.value;
@@ -120,7 +128,8 @@ returns-clause-found c =
 
 pub returns-clause-others : goal.returns-clause-others
 returns-clause-others c =
-    let goes : Goes c.args.rows.now.items c.swap_remove-removed.new.self.items c.in-Some.place c.swap_remove-removed.result c.args.id (get nat_cmp c.args.index.now) (get nat_cmp c.remove.new.self) =
+    let goes : Goes c.args.rows.now.items c.swap_remove-removed.new.self.items c.in-Some.place c.swap_remove-removed.result c.args.id
+        (get nat_cmp c.args.index.now) (get nat_cmp c.remove.new.self) =
     record {
       indexed = c.requires;
       there = sym c.in-Some.ensures.value;
@@ -131,11 +140,13 @@ returns-clause-others c =
     let len : c.len.result ≡ length c.swap_remove-removed.new.self.items = search rules in
     let count = one_fewer goes in
     let more = more_after c.in-Some.place (length c.args.rows.now.items) c.len.result (within goes) (omega (arith, len, count)) c.if-place-len.false in
-    another_remaining goes more c.index.result.now c.index.ensures (get nat_cmp c.set_place.new.index) (record { here = c.set_place.ensures.here; others = c.set_place.ensures.others })
+    another_remaining goes more c.index.result.now c.index.ensures (get nat_cmp c.set_place.new.index)
+        (record { here = c.set_place.ensures.here; others = c.set_place.ensures.others })
 
 pub returns-clause-absent : goal.returns-clause-absent
 returns-clause-absent c =
-    let goes : Goes c.args.rows.now.items c.swap_remove-removed.new.self.items c.in-Some.place c.swap_remove-removed.result c.args.id (get nat_cmp c.args.index.now) (get nat_cmp c.remove.new.self) =
+    let goes : Goes c.args.rows.now.items c.swap_remove-removed.new.self.items c.in-Some.place c.swap_remove-removed.result c.args.id
+        (get nat_cmp c.args.index.now) (get nat_cmp c.remove.new.self) =
     record {
       indexed = c.requires;
       there = sym c.in-Some.ensures.value;
@@ -147,7 +158,8 @@ returns-clause-absent c =
 
 pub returns-clause-indexed : goal.returns-clause-indexed
 returns-clause-indexed c =
-    let goes : Goes c.args.rows.now.items c.swap_remove-removed.new.self.items c.in-Some.place c.swap_remove-removed.result c.args.id (get nat_cmp c.args.index.now) (get nat_cmp c.remove.new.self) =
+    let goes : Goes c.args.rows.now.items c.swap_remove-removed.new.self.items c.in-Some.place c.swap_remove-removed.result c.args.id
+        (get nat_cmp c.args.index.now) (get nat_cmp c.remove.new.self) =
     record {
       indexed = c.requires;
       there = sym c.in-Some.ensures.value;
@@ -158,4 +170,5 @@ returns-clause-indexed c =
     let len : c.len.result ≡ length c.swap_remove-removed.new.self.items = search rules in
     let count = one_fewer goes in
     let more = more_after c.in-Some.place (length c.args.rows.now.items) c.len.result (within goes) (omega (arith, len, count)) c.if-place-len.false in
-    another_gone goes more c.index.result.now c.index.ensures (get nat_cmp c.set_place.new.index) (record { here = c.set_place.ensures.here; others = c.set_place.ensures.others })
+    another_gone goes more c.index.result.now c.index.ensures (get nat_cmp c.set_place.new.index)
+        (record { here = c.set_place.ensures.here; others = c.set_place.ensures.others })

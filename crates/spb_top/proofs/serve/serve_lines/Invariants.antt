@@ -16,7 +16,8 @@ invariant-loop-line g l =
       running : turns.ended l.session ≡ false;
       disk : turns.faults l.initial.session ≤ turns.faults l.session;
       serving : Serving g.S.Source g.K.Sink l.initial.reader l.initial.output l.reader l.output written;
-      goes_on : (first : State) → turns.holds l.initial.session first → GoesOn turns.holds turns.leaves first l.initial.session l.initial.reader l.session l.reader written;
+      goes_on : (first : State) → turns.holds l.initial.session first
+          → GoesOn turns.holds turns.leaves first l.initial.session l.initial.reader l.session l.reader written;
     }
 
 abbrev pub decreases-loop-line : goal.decreases-loop-line

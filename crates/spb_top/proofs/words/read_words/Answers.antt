@@ -8,14 +8,16 @@ use Rattle.spb_top.proofs.words.read_words.Goals as goal
 
 pub returns-then-not-are_plain : goal.returns-then-not-are_plain
 returns-then-not-are_plain c = record {
-  exact = sym (refused_asks_nothing (map string_bytes c.args.words.now) (λ plain. false≢true (sym c.if-not-are_plain.true ∙ c.are_plain.ensures.1 (all_plain string_bytes c.args.words.now plain))));
+  exact = sym (refused_asks_nothing (map string_bytes c.args.words.now)
+      (λ plain. false≢true (sym c.if-not-are_plain.true ∙ c.are_plain.ensures.1 (all_plain string_bytes c.args.words.now plain))));
 }
 
 pub returns-in-Ok-try_get_matches_from : goal.returns-in-Ok-try_get_matches_from
 returns-in-Ok-try_get_matches_from c =
     let plain = each_plain string_bytes c.args.words.now (c.are_plain.ensures.0 c.if-not-are_plain.false) in
     let parse = c.try_get_matches_from in record {
-      exact = c.asked_in.ensures ∙ matches_ask (app_of c.in-Ok.command) (map string_bytes c.args.words.now) parse.result c.in-Ok-try_get_matches_from.matches c.in-Ok.ensures plain c.in-Ok-try_get_matches_from.is
+      exact = c.asked_in.ensures ∙ matches_ask (app_of c.in-Ok.command) (map string_bytes c.args.words.now)
+          parse.result c.in-Ok-try_get_matches_from.matches c.in-Ok.ensures plain c.in-Ok-try_get_matches_from.is
           parse.ensures.matches parse.ensures.kinds;
     }
 
@@ -23,6 +25,7 @@ pub returns : goal.returns
 returns c =
     let plain = each_plain string_bytes c.args.words.now (c.are_plain.ensures.0 c.if-not-are_plain.false) in
     let parse = c.try_get_matches_from in record {
-      exact = sym (refusal_asks_nothing (app_of c.in-Ok.command) (map string_bytes c.args.words.now) parse.result c.in-Err.e c.in-Ok.ensures plain c.in-Err.is parse.ensures.kinds
+      exact = sym (refusal_asks_nothing (app_of c.in-Ok.command) (map string_bytes c.args.words.now)
+          parse.result c.in-Err.e c.in-Ok.ensures plain c.in-Err.is parse.ensures.kinds
           (λ memory. let same : c.eq.result ≡ true = rw (c.kind.ensures ∙ memory) at c.eq.ensures in false≢true (sym c.if-eq.false ∙ same)));
     }

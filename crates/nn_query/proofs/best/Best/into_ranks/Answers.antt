@@ -4,4 +4,5 @@ use Rattle.answer_lists.specs.OrderLaws as laws
 use Rattle.nn_query.proofs.best.Best.into_ranks.Goals as goal
 
 pub returns : goal.returns
-returns c = c.from.ensures ∙ laws.sorted_by-from_sort goes_before laws.pair_order _ _ c.into_sorted_vec.ensures.permutation (c.into_sorted_vec.ensures.sorted c.args.self.ordered)
+returns c = c.from.ensures ∙ laws.sorted_by-from_sort goes_before laws.pair_order _ _ c.into_sorted_vec.ensures.permutation
+    (c.into_sorted_vec.ensures.sorted c.args.self.ordered)

@@ -9,5 +9,6 @@ invariant_of-self c =
       c.self.invariant.0,
       c.self.invariant.1,
       omega (arith, c.self.invariant.2, c.in-Ok.ensures.capacity),
-      rw c.in-Ok.ensures.items (join-more (length inside.kept.items) inside.unsynced.items (length inside.image.items) c.args.at c.args.len (length inside.image.items) c.self.invariant.3 within (omega arith)),
+      rw c.in-Ok.ensures.items (join-more (length inside.kept.items) inside.unsynced.items (length inside.image.items) c.args.at c.args.len
+          (length inside.image.items) c.self.invariant.3 within (omega arith)),
     )
