@@ -1,0 +1,2 @@
+pub mod SlotBytes
+pub mod FreeSlots
