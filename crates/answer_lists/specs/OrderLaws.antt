@@ -189,7 +189,7 @@ module _ {A : Type 0} (before : A → A → Bool) (w : IsStrictWeakOrder before)
   filtered_if : (p : A → Bool) (b s t : Bool) (x y : A) (ys : List A) → p x ≡ s → p y ≡ t → before y x ≡ b → AllByRecursion (λ z. before z y ≡ false) ys
       → filter p (with_inserted before x ys) ≡ cond s (with_inserted before x (filter p ys)) (filter p ys)
       → filter p (if b then y ∷ with_inserted before x ys else x ∷ y ∷ ys)
-          ≡ cond s (with_inserted before x (cond t (y ∷ filter p ys) (filter p ys))) (cond t (y ∷ filter p ys) (filter p ys))
+      ≡ cond s (with_inserted before x (cond t (y ∷ filter p ys) (filter p ys))) (cond t (y ∷ filter p ys) (filter p ys))
   filtered_if p true true true x y ys hx hy is up more =
       ap (λ c. cond c (y ∷ filter p (with_inserted before x ys)) (filter p (with_inserted before x ys))) hy
       ∙ ap (λ zs. y ∷ zs) more
@@ -354,7 +354,7 @@ module _ {A : Type 0} (before : A → A → Bool) (o : IsStrictOrder before) whe
   pub sorted_by-unique : (xs ys : List A) → IsPermutation xs ys → IsInOrder before ys → ys ≡ sorted_by before xs
   sorted_by-unique xs ys moved up =
       in_order-same ys (sorted_by before xs) up (in_order-sorted_by before weak xs)
-          (IsPermutation-trans _ _ _ (IsPermutation-sym _ _ moved) (permutation-sorted_by before xs))
+      (IsPermutation-trans _ _ _ (IsPermutation-sym _ _ moved) (permutation-sorted_by before xs))
 
   -- what a sort gives
   pub sorted_by-from_sort : (xs ys : List A) → IsPermutation xs ys → IsSortedBy before ys → ys ≡ sorted_by before xs
@@ -364,7 +364,7 @@ module _ {A : Type 0} (before : A → A → Bool) (o : IsStrictOrder before) whe
   pub sorted_by-same : (xs ys : List A) → IsPermutation xs ys → sorted_by before xs ≡ sorted_by before ys
   sorted_by-same xs ys moved =
       sorted_by-unique ys (sorted_by before xs) (IsPermutation-trans _ _ _ (IsPermutation-sym _ _ moved) (permutation-sorted_by before xs))
-          (in_order-sorted_by before weak xs)
+      (in_order-sorted_by before weak xs)
 
   -- if the second list comes after the first, each is sorted by itself
   pub sorted_by-append : (front back : List A) → AreAllAfter before front back
@@ -374,7 +374,7 @@ module _ {A : Type 0} (before : A → A → Bool) (o : IsStrictOrder before) whe
       (sorted_by-unique (front ++ back) (sorted_by before front ++ sorted_by before back)
       (IsPermutation-append _ _ _ _ (permutation-sorted_by before front) (permutation-sorted_by before back))
       (in_order-append before (sorted_by before front) (sorted_by before back) (in_order-sorted_by before weak front) (in_order-sorted_by before weak back)
-          (behind-sorted_by before front back behind)))
+      (behind-sorted_by before front back behind)))
 
   -- a prefix of the sorted list stays if all that is added comes after it
   pub sorted_by-more : (xs more front back : List A) → sorted_by before xs ≡ front ++ back → AreAllAfter before front more
@@ -383,7 +383,7 @@ module _ {A : Type 0} (before : A → A → Bool) (o : IsStrictOrder before) whe
       let up : IsInOrder before (front ++ back) = subst (IsInOrder before) parts (in_order-sorted_by before weak xs) in
       let moved : IsPermutation xs (front ++ back) = subst (IsPermutation xs) parts (permutation-sorted_by before xs) in
       sorted_by-same (xs ++ more) (front ++ (back ++ more))
-          (subst (IsPermutation (xs ++ more)) (append_assoc front back more) (IsPermutation-append _ _ _ _ moved (IsPermutation-refl more)))
+      (subst (IsPermutation (xs ++ more)) (append_assoc front back more) (IsPermutation-append _ _ _ _ moved (IsPermutation-refl more)))
       ∙ sorted_by-append front (back ++ more) (behind-append before front back more (in_order-behind before front back up) behind)
       ∙ ap (λ zs. zs ++ sorted_by before (back ++ more)) (sorted_by-already before weak front (in_order-front before front back up))
 
@@ -442,7 +442,7 @@ module _ {A : Type 0} (before : A → A → Bool) (o : IsStrictOrder before) whe
       let front = take (suc k) (sorted_by before xs) in
       let back = drop (suc k) (sorted_by before xs) in
       let behind : AreAllAfter before front more = behind_all front last more (up_to (sorted_by before xs) k last (in_order-sorted_by before weak xs) place)
-          (recursion_from_All (λ y. before y last ≡ false) more others) in
+      (recursion_from_All (λ y. before y last ≡ false) more others) in
       let inside = slice_get_within (sorted_by before xs) k last place in
       let long : length front ≡ suc k = length-take-le (suc k) (sorted_by before xs) (omega (arith, inside)) in
       ap (take (suc k)) (sorted_by-more xs more front back (sym (take-append-drop (suc k) (sorted_by before xs))) behind)
@@ -538,7 +538,7 @@ module _ {A B : Type 0} (before : B → B → Bool) (o : IsStrictOrder before) (
   pub arranged_by-same : (xs ys : List A) → IsPermutation xs ys → HasDistinctKeys key xs → sorted_by by_key xs ≡ sorted_by by_key ys
   arranged_by-same xs ys moved h =
       let whole : IsPermutation (sorted_by by_key xs) (sorted_by by_key ys) =
-          IsPermutation-trans _ _ _ (sorted_by-permutation by_key xs) (IsPermutation-trans _ _ _ moved (permutation-sorted_by by_key ys)) in
+      IsPermutation-trans _ _ _ (sorted_by-permutation by_key xs) (IsPermutation-trans _ _ _ moved (permutation-sorted_by by_key ys)) in
       same_items (sorted_by by_key xs) (sorted_by by_key ys)
       (sorted_by-map before key xs ∙ sorted_by-same before o (map key xs) (map key ys) (IsPermutation-map key xs ys moved) ∙ sym (sorted_by-map before key ys))
       whole

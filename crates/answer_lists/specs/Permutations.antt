@@ -18,7 +18,7 @@ module _ {A B : Type 0} (f : A → List B) where
   flat_map-set (z ∷ l) (suc j) x d inside =
       IsPermutation-trans _ _ _ (permutation-fronts (f x) (f z) (flat_map f l))
       (IsPermutation-trans _ _ _ (IsPermutation-append_right (f z) _ _ (flat_map-set l j x d (omega (arith, inside))))
-          (permutation-fronts (f z) (f (get_or l j d)) (flat_map f (set l j x))))
+      (permutation-fronts (f z) (f (get_or l j d)) (flat_map f (set l j x))))
 
   flat_map-exchanged : (l : List A) (i j : ℕ) (d : A) → i < length l → j < length l
       → IsPermutation (flat_map f l) (flat_map f (set (set l i (get_or l j d)) j (get_or l i d)))
@@ -56,7 +56,7 @@ module _ {A : Type 0} (p : A → Bool) where
   permutation-filter xs ys moved =
       subst (λ l. IsPermutation l (filter p ys)) (sym (filter-pieces xs))
       (subst (IsPermutation (flat_map (λ x. cond (p x) (x ∷ []) []) xs)) (sym (filter-pieces ys))
-          (permutation-flat_map (λ x. cond (p x) (x ∷ []) []) xs ys moved))
+      (permutation-flat_map (λ x. cond (p x) (x ∷ []) []) xs ys moved))
 
 module _ {A B : Type 0} (h : A → Option B) where
   piece : Option B → List B

@@ -61,7 +61,7 @@ cell_next n u e d k all total w x s e' d' hw hx hs he hd before =
     ap (λ y. (2 * all + y) * 2 ^ u + cell_lanes n u e' d' (k % 2 ^ (n * u))) spread
     ∙ ap (λ y. (2 * all + lanes (64 / n) n (bit_at (cell_bits n e d q))) * 2 ^ u + y) left
     ∙ regroup all (lanes (64 / n) n (bit_at (cell_bits n e d q))) (2 ^ u) (2 ^ suc u)
-        (cell_lanes n u (next_entry n e d q) (next_direction n d q) (k % 2 ^ (n * u))) (twice_pow u)
+    (cell_lanes n u (next_entry n e d q) (next_direction n d q) (k % 2 ^ (n * u))) (twice_pow u)
     ∙ sym (ap (λ y. all * 2 ^ suc u + y) (cell_step n u e d k)) ∙ before
   where
     regroup : (a s p q r : ℕ) → q ≡ 2 * p → (2 * a + s) * p + r ≡ a * q + (s * p + r)

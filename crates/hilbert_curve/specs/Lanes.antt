@@ -91,7 +91,7 @@ pub lanes-bit : (s n : ℕ) (v : ℕ → ℕ) (t : ℕ) → ((j : ℕ) → j < n
 lanes-bit s n v t h l =
     let back : (a : ℕ) → a * 2 ^ t / 2 ^ t ≡ a = λ a. shl-shr a t in
     let ones : lanes s n (λ j. 2 ^ t) ≡ lanes s n (λ j. 1) * 2 ^ t = lanes_same s n (λ j. 2 ^ t) (λ j. 1 * 2 ^ t) (λ j i. omega arith)
-        ∙ lanes-times s n (λ j. 1) (2 ^ t) in
+    ∙ lanes-times s n (λ j. 1) (2 ^ t) in
     let bits : lanes s n (λ j. bit_and (v j) (2 ^ t)) ≡ lanes s n (λ j. bit_at (v j) t) * 2 ^ t =
     lanes_same s n (λ j. bit_and (v j) (2 ^ t)) (λ j. bit_at (v j) t * 2 ^ t) (λ j i. and_pow (v j) t) ∙ lanes-times s n (λ j. bit_at (v j) t) (2 ^ t) in
     ap (bit_and (lanes s n v / 2 ^ t)) (sym (ap (λ a. a / 2 ^ t) ones ∙ back (lanes s n (λ j. 1))))

@@ -132,7 +132,7 @@ module _ (n : ℕ) (some : 0 < n) where
   turned_by_none : (x t : ℕ) → x < 2 ^ n → t % n ≡ 0 → rotated n x t ≡ x
   turned_by_none x t h z =
       rotated-rotated_bits n x t ∙ ap (λ r. rotated_bits (n - r) r x) z ∙ ap (λ m. rotated_bits m 0 x) (let e : n - 0 ≡ n = omega arith in e)
-          ∙ moved_whole n x h
+      ∙ moved_whole n x h
 
   none_back : (t : ℕ) → t % n ≡ 0 → (n - t % n) % n ≡ 0
   none_back t z = ap (λ r. (n - r) % n) z ∙ ap (λ k. k % n) (let e : n - 0 ≡ 1 * n + 0 = omega arith in e) ∙ mod-mul-add 1 n 0 some

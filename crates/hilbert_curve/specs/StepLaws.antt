@@ -221,7 +221,7 @@ module _ (n : ℕ) (some : 0 < n) (few : n ≤ 8) where
     unfolding a cell_bits
     across =
         parity (bit_at e a) (bit_at (bit_xor (entry w) (2 ^ direction n w)) (trailing_ones w)) (bit_at (gray w) (trailing_ones w)) (bit_at corner a)
-            (bit_at (cell_bits n e d w) a)
+        (bit_at (cell_bits n e d w) a)
         (bit_at-lt e a) fact.across
         (ap (λ x. bit_at x a) corner_is ∙ bit_at_xor e (rotated n (bit_xor (entry w) (2 ^ direction n w)) (d + 1)) a
         ∙ ap (λ x. (bit_at e a + x) % 2) (bit_at-rotated n some (bit_xor (entry w) (2 ^ direction n w)) (d + 1) (trailing_ones w) exit-lt fact.axis))
@@ -267,7 +267,7 @@ module _ (n : ℕ) (some : 0 < n) (few : n ≤ 8) where
       unfolding here there
       moves_along =
           by_bit (bit_at (cell_bits n e d w) a) (bit_at corner a) (bit_at (cell_bits n e d (w + 1)) a) (bit_at (bit_xor corner (2 ^ a)) a) (2 ^ b) (here a)
-              (there a)
+          (there a)
           across (ap (λ x. bit_at x a) next_bits ∙ bit_same (cell_bits n e d w)) (bit_same corner) (here_is a) (there_is a)
 
   -- from the last key of a part to the first of the next
@@ -286,7 +286,7 @@ module _ (n : ℕ) (some : 0 < n) (few : n ≤ 8) where
         axis = mod_below (trailing_ones w + d + 1) n some;
         along = subst (λ x. MovesBy (bit_at (cell_bits n e d w) x == 0) (coordinate_by n x b e d w r) (coordinate n x (suc b) e d (k + 1))) (sym placed)
             (subst (MovesBy (bit_at (cell_bits n e d w) (a e d w h l below next) == 0) (coordinate_by n (a e d w h l below next) b e d w r))
-                (sym (after (a e d w h l below next)))
+            (sym (after (a e d w h l below next)))
             (moves_along e d w h l below next b r full));
         others = λ j ne. after j ∙ others_stay e d w h l below next b r full j (λ s. ne (s ∙ sym placed));
       }
@@ -323,7 +323,7 @@ module _ (n : ℕ) (some : 0 < n) (few : n ≤ 8) where
         axis = m.axis;
         along = subst (MovesBy up (coordinate_by n a b e d w r)) (sym (after a))
             (under up (bit_at (cell_bits n e d w) a * 2 ^ b) (coordinate n a b (next_entry n e d w) (next_direction n d w) r)
-                (coordinate n a b (next_entry n e d w) (next_direction n d w) (r + 1)) m.along);
+            (coordinate n a b (next_entry n e d w) (next_direction n d w) (r + 1)) m.along);
         others = λ j ne. after j ∙ ap (λ x. bit_at (cell_bits n e d w) j * 2 ^ b + x) (m.others j ne);
       }
 
@@ -359,7 +359,7 @@ module _ (n : ℕ) (some : 0 < n) (few : n ≤ 8) where
       at_last : (b e d k : ℕ) (found : Option (ℕ × Bool)) → e < 2 ^ n → d < n → k < 2 ^ (n * suc b) → k / 2 ^ (n * b) < 2 ^ n
           → k % 2 ^ (n * b) + 1 ≡ 2 ^ (n * b) →
           step_found n (suc b) e d k found
-              ≡ (if k / 2 ^ (n * b) + 1 == 2 ^ n then found else Some (axis_of n d (k / 2 ^ (n * b)), goes_up n e d (k / 2 ^ (n * b)))) →
+          ≡ (if k / 2 ^ (n * b) + 1 == 2 ^ n then found else Some (axis_of n d (k / 2 ^ (n * b)), goes_up n e d (k / 2 ^ (n * b)))) →
           ((k + 1 ≡ 2 ^ (n * suc b)) × (step_found n (suc b) e d k found ≡ found)) ⊎ FindsStep n (suc b) e d k (step_found n (suc b) e d k found)
       at_last b e d k found h l i below full is =
           let w = k / 2 ^ (n * b) in

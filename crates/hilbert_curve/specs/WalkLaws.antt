@@ -26,7 +26,7 @@ pub coordinate-lt : (n j b e d k : ℕ) → coordinate n j b e d k < 2 ^ b
 coordinate-lt n j zero e d k = pow_pos 0
 coordinate-lt n j (suc b) e d k =
     room (bit_at (cell_bits n e d (k / 2 ^ (n * b))) j)
-        (coordinate n j b (next_entry n e d (k / 2 ^ (n * b))) (next_direction n d (k / 2 ^ (n * b))) (k % 2 ^ (n * b))) (2 ^ b) (2 ^ suc b) (twice_pow b)
+    (coordinate n j b (next_entry n e d (k / 2 ^ (n * b))) (next_direction n d (k / 2 ^ (n * b))) (k % 2 ^ (n * b))) (2 ^ b) (2 ^ suc b) (twice_pow b)
     (bit_at-lt (cell_bits n e d (k / 2 ^ (n * b))) j)
     (coordinate-lt n j b (next_entry n e d (k / 2 ^ (n * b))) (next_direction n d (k / 2 ^ (n * b))) (k % 2 ^ (n * b)))
   where
@@ -97,7 +97,7 @@ module _ (n : ℕ) (some : 0 < n) (few : n ≤ 8) where
       let below : w < 2 ^ n = group_at-lt v b e d h in
       let rest = key_from-lt v b (next_entry n e d w) (next_direction n d w) (next_entry-lt e d w h below) in
       subst (λ m. key_from n v (suc b) e d < m) (sym (lane_room n b))
-          (room w (key_from n v b (next_entry n e d w) (next_direction n d w)) (2 ^ n) (2 ^ (n * b)) below rest)
+      (room w (key_from n v b (next_entry n e d w) (next_direction n d w)) (2 ^ n) (2 ^ (n * b)) below rest)
     where
       room : (w r m p : ℕ) → w < m → r < p → w * p + r < m * p
       room w r m p h l = grind arith
@@ -111,7 +111,7 @@ module _ (n : ℕ) (some : 0 < n) (few : n ≤ 8) where
       let below : w < 2 ^ n = group_at-lt v b e d h in
       let entry_below : next_entry n e d w < 2 ^ n = next_entry-lt e d w h below in
       coordinate_at n j b e d w (key_from n v b (next_entry n e d w) (next_direction n d w))
-          (key_from-lt v b (next_entry n e d w) (next_direction n d w) entry_below)
+      (key_from-lt v b (next_entry n e d w) (next_direction n d w) entry_below)
       ∙ ap (λ y. bit_at y j * 2 ^ b + coordinate n j b (next_entry n e d w) (next_direction n d w) (key_from n v b (next_entry n e d w) (next_direction n d w)))
       (cell_bits-group_of e d x h (bits_of-lt v b))
       ∙ ap (λ y. y * 2 ^ b + coordinate n j b (next_entry n e d w) (next_direction n d w) (key_from n v b (next_entry n e d w) (next_direction n d w)))

@@ -13,7 +13,7 @@ module _ {D : Type 0} (is_known tells : D → Bool) (image : D → List ℕ) (cr
   CommitSays start total entries new = IsTrue (is_known start) → IsTrue (tells start) → IsDurable (image start) (crash_states start)
       → (marks : List ℕ) (home : ℕ → List ℕ)
       → RecoversTo total (image start) marks home → has_open_gate (image start) ≡ false
-          → CrashesLeaveOnly moment crash_states_since start new (IsBeforeOrAfter total entries marks home)
+      → CrashesLeaveOnly moment crash_states_since start new (IsBeforeOrAfter total entries marks home)
 
   pub from_start : (start staged new last : D) (total t : ℕ) (entries es : List (ℕ × List ℕ)) → staged ≡ start → t ≡ total → es ≡ entries → last ≡ new
       → CommitSays staged t es new → CommitSays start total entries last

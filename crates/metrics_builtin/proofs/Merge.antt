@@ -30,11 +30,21 @@ pub record Counted (passed others common : ℕ) : Type 0 where
 
 pub counted : (x y passed others common : ℕ) → Steps x y passed others common → Counted passed others common
 counted x y passed others common s = elim (cases_eq x y) [
-  | inl same ↦ let e = s.equal same in record { one = omega arith; one_other = omega arith; within = omega arith; within_others = omega arith;
-      some = omega arith }
+  | inl same ↦ let e = s.equal same in record {
+    one = omega arith;
+    one_other = omega arith;
+    within = omega arith;
+    within_others = omega arith;
+    some = omega arith;
+  }
   | inr other ↦ elim (cases_lt x y) [
-    | inl low ↦ let e = s.less low in record { one = omega arith; one_other = omega arith; within = omega arith; within_others = omega arith;
-        some = omega arith }
+    | inl low ↦ let e = s.less low in record {
+      one = omega arith;
+      one_other = omega arith;
+      within = omega arith;
+      within_others = omega arith;
+      some = omega arith;
+    }
     | inr high ↦ let e = s.greater (grind arith) in
         record { one = omega arith; one_other = omega arith; within = omega arith; within_others = omega arith; some = omega arith }
   ]

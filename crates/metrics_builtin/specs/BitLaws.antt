@@ -44,8 +44,12 @@ count_held n r a zero low high start end = omega arith
 count_held n r a (suc m) low high start end = elim (cases_lt r a) [
   | inl past ↦ omega (arith, none_held n (r + 1) a (suc m) high (omega arith))
   | inr below ↦
-      omega (arith, held-cons n a (range_with_len (a + 1) m), held-le n (2 ^ a) (power_le a r n below low),
-          count_held n r (a + 1) m low high (omega arith) (omega arith))
+      omega (
+        arith,
+        held-cons n a (range_with_len (a + 1) m),
+        held-le n (2 ^ a) (power_le a r n below low),
+        count_held n r (a + 1) m low high (omega arith) (omega arith),
+      )
 ]
 
 -- the number is one more than the place of the highest bit

@@ -78,8 +78,14 @@ hamming_dist-triangle [] ys zs e f = omega (arith, hamming_dist-nil zs)
 hamming_dist-triangle (x ∷ xs) [] zs e f = absurd (omega arith)
 hamming_dist-triangle (x ∷ xs) (y ∷ ys) [] e f = absurd (omega arith)
 hamming_dist-triangle (x ∷ xs) (y ∷ ys) (z ∷ zs) e f =
-    omega (arith, hamming_dist-cons x z xs zs, hamming_dist-cons x y xs ys, hamming_dist-cons y z ys zs, one_triangle x y z,
-        hamming_dist-triangle xs ys zs (omega arith) (omega arith))
+    omega (
+      arith,
+      hamming_dist-cons x z xs zs,
+      hamming_dist-cons x y xs ys,
+      hamming_dist-cons y z ys zs,
+      one_triangle x y z,
+      hamming_dist-triangle xs ys zs (omega arith) (omega arith),
+    )
 
 -- each place adds at most 1
 pub hamming_dist-le : (xs ys : List ℕ) → length xs ≡ length ys → hamming_dist xs ys ≤ length xs

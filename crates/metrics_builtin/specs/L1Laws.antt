@@ -80,7 +80,7 @@ pub l1_dist-bounded : (dim most : ℕ) (a b : List ℕ) → most < 2 ^ 32 → Is
 l1_dist-bounded dim most a b small v w =
     subst (λ n. l1_dist (components a) (components b) ≤ n * most) (length-components-IsVector dim most a v)
     (l1_dist-le most (components a) (components b) (same_length dim most a b v w) (All-components-IsVector dim most a small v)
-        (All-components-IsVector dim most b small w))
+    (All-components-IsVector dim most b small w))
 
 -- the sum of differences is a metric on vectors
 pub l1_metric : (dim most : ℕ) → most < 2 ^ 32 →

@@ -164,14 +164,14 @@ pub set_dist-comm : (universe : ℕ) (xs ys : List ℕ) → set_dist universe xs
 unfolding set_dist
 set_dist-comm universe xs ys =
     count-same (λ e. exactly_one (is_element xs e) (is_element ys e)) (λ e. exactly_one (is_element ys e) (is_element xs e))
-        (λ e. exactly_comm (is_element xs e) (is_element ys e)) (range_with_len 0 universe)
+    (λ e. exactly_comm (is_element xs e) (is_element ys e)) (range_with_len 0 universe)
 
 -- the triangle inequality
 pub set_dist-triangle : (universe : ℕ) (xs ys zs : List ℕ) → set_dist universe xs zs ≤ set_dist universe xs ys + set_dist universe ys zs
 unfolding set_dist
 set_dist-triangle universe xs ys zs =
     count-le (λ e. exactly_one (is_element xs e) (is_element zs e)) (λ e. exactly_one (is_element xs e) (is_element ys e))
-        (λ e. exactly_one (is_element ys e) (is_element zs e))
+    (λ e. exactly_one (is_element ys e) (is_element zs e))
     (λ e. exactly_triangle (is_element xs e) (is_element ys e) (is_element zs e)) (range_with_len 0 universe)
 
 none_of : (zs : List ℕ) → count_by (λ e. false) zs ≡ 0
@@ -193,15 +193,24 @@ one_or false b = omega arith
 few_elements : (universe : ℕ) (xs : List ℕ) → count_by (is_element xs) (range_with_len 0 universe) ≤ length xs
 few_elements universe [] = omega (arith, none_of (range_with_len 0 universe))
 few_elements universe (x ∷ xs) =
-    omega (arith, count-le (is_element (x ∷ xs)) (λ z. x == z) (is_element xs) (λ z. one_or (x == z) (is_element xs z)) (range_with_len 0 universe),
-        count-once x 0 universe, few_elements universe xs)
+    omega (
+      arith,
+      count-le (is_element (x ∷ xs)) (λ z. x == z) (is_element xs) (λ z. one_or (x == z) (is_element xs z)) (range_with_len 0 universe),
+      count-once x 0 universe,
+      few_elements universe xs,
+    )
 
 -- no more elements differ than the two have
 set_dist-le-lengths : (universe : ℕ) (xs ys : List ℕ) → set_dist universe xs ys ≤ length xs + length ys
 unfolding set_dist
 set_dist-le-lengths universe xs ys =
-    omega (arith, count-le (λ e. exactly_one (is_element xs e) (is_element ys e)) (is_element xs) (is_element ys)
-        (λ e. exactly_le (is_element xs e) (is_element ys e)) (range_with_len 0 universe), few_elements universe xs, few_elements universe ys)
+    omega (
+      arith,
+      count-le (λ e. exactly_one (is_element xs e) (is_element ys e)) (is_element xs) (is_element ys)
+          (λ e. exactly_le (is_element xs e) (is_element ys e)) (range_with_len 0 universe),
+      few_elements universe xs,
+      few_elements universe ys,
+    )
 
 -- nor than the universe has
 set_dist-le-universe : (universe : ℕ) (xs ys : List ℕ) → set_dist universe xs ys ≤ universe
@@ -279,8 +288,12 @@ pub set_dist-one : (universe x : ℕ) (xs ys : List ℕ) → x < universe → is
     set_dist universe (x ∷ xs) ys ≡ 1 + set_dist universe xs ys
 unfolding set_dist
 set_dist-one universe x xs ys inside none none_y =
-    omega (arith, count-sum (λ e. exactly_one (is_element (x ∷ xs) e) (is_element ys e)) (λ e. x == e) (λ e. exactly_one (is_element xs e) (is_element ys e))
-        (one_more x xs ys none none_y) (range_with_len 0 universe), count-here x 0 universe (omega arith) (omega arith))
+    omega (
+      arith,
+      count-sum (λ e. exactly_one (is_element (x ∷ xs) e) (is_element ys e)) (λ e. x == e) (λ e. exactly_one (is_element xs e) (is_element ys e))
+          (one_more x xs ys none none_y) (range_with_len 0 universe),
+      count-here x 0 universe (omega arith) (omega arith),
+    )
 
 -- an element of both lists counts nothing
 pub set_dist-both : (universe x : ℕ) (xs ys : List ℕ) → is_element xs x ≡ false → is_element ys x ≡ false →
@@ -288,7 +301,7 @@ pub set_dist-both : (universe x : ℕ) (xs ys : List ℕ) → is_element xs x �
 unfolding set_dist
 set_dist-both universe x xs ys none none_y =
     count-same (λ e. exactly_one (is_element (x ∷ xs) e) (is_element (x ∷ ys) e)) (λ e. exactly_one (is_element xs e) (is_element ys e))
-        (λ z. elim (cases_eq x z) [
+    (λ z. elim (cases_eq x z) [
       | inl e ↦
           let first : (x == z) ≡ true = grind (arith, nat_tests) in
           let missing : is_element xs z ≡ false = ap (is_element xs) (sym e) ∙ none in
@@ -304,8 +317,11 @@ pub set_dist-nil : (universe : ℕ) (xs : List ℕ) → IsStrictlyIncreasing xs 
 set_dist-nil universe [] r v = set_dist-self universe []
 set_dist-nil universe (x ∷ xs) r v =
     let below : x < universe = v 0 0 (omega arith) in
-    omega (arith, set_dist-one universe x xs [] below (is_element-below x xs (rising-above x xs r)) refl,
-        set_dist-nil universe xs (rising-tail x xs r) (All-tail (λ k. k < universe) x xs v))
+    omega (
+      arith,
+      set_dist-one universe x xs [] below (is_element-below x xs (rising-above x xs r)) refl,
+      set_dist-nil universe xs (rising-tail x xs r) (All-tail (λ k. k < universe) x xs v),
+    )
 
 -- what is left of two lists, if the first number left of one is the lesser or both are equal
 pub record Merges (universe i j : ℕ) (xs ys : List ℕ) : Type 0 where
@@ -356,8 +372,12 @@ merges_end universe i j xs ys r s v w h k end = elim (cases_lt i (length xs)) [
   | inr all ↦
       let none : drop i xs ≡ [] = drop_all i xs all in
       let left : length (drop j ys) ≡ length ys - j = length-drop j ys in
-      omega (arith, set_dist-comm universe (drop i xs) (drop j ys), ap (set_dist universe (drop j ys)) none,
-          set_dist-nil universe (drop j ys) (rising-drop ys j s) (within-drop universe ys j w))
+      omega (
+        arith,
+        set_dist-comm universe (drop i xs) (drop j ys),
+        ap (set_dist universe (drop j ys)) none,
+        set_dist-nil universe (drop j ys) (rising-drop ys j s) (within-drop universe ys j w),
+      )
 ]
 
 -- ---- subsets
@@ -366,7 +386,7 @@ merges_end universe i j xs ys r s v w h k end = elim (cases_lt i (length xs)) [
 pub components-IsSubset : (universe most : ℕ) (object : List ℕ) → universe < 2 ^ 32 → (v : IsSubset universe most object) → components object ≡ v.elements
 components-IsSubset universe most object small v =
     ap components v.spelling ∙ components-object_of_components v.elements (λ k d h. let low : get_or v.elements k d < universe = v.set.within k d h in
-        omega arith)
+    omega arith)
 
 -- the components of a subset: ascending, within the universe, few
 pub elements-IsSubset : (universe most : ℕ) (object : List ℕ) → universe < 2 ^ 32 → IsSubset universe most object

@@ -79,7 +79,7 @@ four_from-cons : (a b c d : ℕ) (rest : List ℕ) (i : ℕ) →
     four_from (a ∷ b ∷ c ∷ d ∷ rest) (4 * suc i) ≡ four_from rest (4 * i)
 four_from-cons a b c d rest i =
     let at : (k j : ℕ) → j ≡ (4 * i + k) + 4
-        → get_or (a ∷ b ∷ c ∷ d ∷ rest) j 0 ≡ get_or rest (4 * i + k) 0 = λ k j e. past_four a b c d rest (4 * i + k) j e in
+    → get_or (a ∷ b ∷ c ∷ d ∷ rest) j 0 ≡ get_or rest (4 * i + k) 0 = λ k j e. past_four a b c d rest (4 * i + k) j e in
     let first : get_or (a ∷ b ∷ c ∷ d ∷ rest) (4 * suc i) 0 ≡ get_or rest (4 * i) 0 = past_four a b c d rest (4 * i) (4 * suc i) (omega arith) in
     cc (first, at 1 (4 * suc i + 1) (omega arith), at 2 (4 * suc i + 2) (omega arith), at 3 (4 * suc i + 3) (omega arith))
 
@@ -111,7 +111,7 @@ unfolding components object_of_components
 object_of_components-components (a ∷ b ∷ c ∷ d ∷ rest) zero e h = absurd (omega arith)
 object_of_components-components (a ∷ b ∷ c ∷ d ∷ rest) (suc n) e h =
     let first : to_be_bytes w32 (from_be_bytes w32 (a ∷ b ∷ c ∷ d ∷ [])) ≡ a ∷ b ∷ c ∷ d ∷ [] =
-        be_bytes_4 (a ∷ b ∷ c ∷ d ∷ []) _ refl (four_bytes a b c d rest h) refl in
+    be_bytes_4 (a ∷ b ∷ c ∷ d ∷ []) _ refl (four_bytes a b c d rest h) refl in
     let others : object_of_components (components rest) ≡ rest = object_of_components-components rest n (omega arith) (λ i. h (suc (suc (suc (suc i))))) in
     ap (λ bytes. bytes ++ object_of_components (components rest)) first ∙ ap (λ bytes. a ∷ b ∷ c ∷ d ∷ bytes) others
 object_of_components-components [] n e h = refl

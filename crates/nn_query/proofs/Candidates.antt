@@ -91,7 +91,7 @@ pub whole-list : (asked : List ℕ) (rows : List vector_row.Row) (cs : List Cand
 whole-list asked rows cs moved =
     subst (λ es. IsPermutation es (entries_at (object_at_place rows) cs)) (at-candidates_for (object_at_place rows) asked 0 rows (λ k row below at.
     subst (λ (m : ℕ). object_at_place rows m ≡ row.object) (let e : k ≡ k + 0 = omega arith in e) (object-is rows k row below at)))
-        (IsPermutation-map (entry_at (object_at_place rows)) _ cs moved)
+    (IsPermutation-map (entry_at (object_at_place rows)) _ cs moved)
 
 each-candidates_for : (P : Candidate → Type 0) (asked : List ℕ) (rows : List vector_row.Row)
     → ((k : ℕ) (row : vector_row.Row) → k < length rows → row ≡ get_or rows k row → P (candidate_for asked k row))
@@ -108,7 +108,7 @@ apart dist pivots query rows ids i j d less below same =
     let inside : j < length rows = omega (arith, below, long) in
     ids i j none less inside
     (ap (λ (e : Entry). e.0) (sym (get_or-map entry_of rows i none d (omega (arith, less, inside)))) ∙ ap (λ (b : ℕ × ℕ). b.1) same
-        ∙ ap (λ (e : Entry). e.0) (get_or-map entry_of rows j none d inside))
+    ∙ ap (λ (e : Entry). e.0) (get_or-map entry_of rows j none d inside))
 
 -- ---- rows in the queue
 
@@ -149,7 +149,7 @@ module _ (asked : List ℕ) (rows : List vector_row.Row) (items : List Waiting) 
     lower =
         all-moved (λ (c : Candidate). goes_before (dist query (object_at_place rows c.place), c.id) (bound_rank c) ≡ false) _ _ candidates_under-items
         (each-candidates_for (λ (c : Candidate). goes_before (dist query (object_at_place rows c.place), c.id) (bound_rank c) ≡ false) asked rows
-            (λ k row below at.
+        (λ k row below at.
         subst (λ (o : List ℕ). goes_before (dist query o, row.id) (lower_bound asked row.vect, row.id) ≡ false) (sym (object-is rows k row below at))
         (not_under (lower_bound asked row.vect) (dist query row.object) row.id (each k row below at))));
     least = all-moved _ _ items moved (are-least (candidates_for asked 0 rows));
@@ -165,9 +165,9 @@ module _ (dist : List ℕ → List ℕ → ℕ) (pivots : List (List ℕ)) (quer
       All-from_recursion _ cs (all-moved (λ (c : Candidate). bound_rank c ≡ rank_bound dist pivots query (entry_at (object_at_place rows) c)) _ cs moved
       (each-candidates_for (λ (c : Candidate). bound_rank c ≡ rank_bound dist pivots query (entry_at (object_at_place rows) c)) asked rows (λ k row below at.
       let vect : row.vect ≡ cells_of dist pivots row.object =
-          subst (λ (r : vector_row.Row). r.vect ≡ cells_of dist pivots r.object) (sym at) (vects k row below) in
+      subst (λ (r : vector_row.Row). r.vect ≡ cells_of dist pivots r.object) (sym at) (vects k row below) in
       let key : ◌≡◌ {A = ℕ × ℕ} (lower_bound asked row.vect, row.id) (rank_bound dist pivots query (entry_of row)) =
-          ap (λ v. (lower_bound asked v, row.id)) vect in
+      ap (λ v. (lower_bound asked v, row.id)) vect in
       key ∙ ap (λ (o : List ℕ). rank_bound dist pivots query (row.id, o)) (sym (object-is rows k row below at)))))
 
   -- the bounds are those that the pivots set
@@ -176,6 +176,6 @@ module _ (dist : List ℕ → List ℕ → ℕ) (pivots : List (List ℕ)) (quer
       → (k : ℕ) (row : vector_row.Row) → k < length rows → row ≡ get_or rows k row → lower_bound (vector_of dist pivots query) row.vect ≤ dist query row.object
   bounds-are admitted vects objects asks holds k row below at =
       let vect : row.vect ≡ cells_of dist pivots row.object =
-          subst (λ (r : vector_row.Row). r.vect ≡ cells_of dist pivots r.object) (sym at) (vects k row below) in
+      subst (λ (r : vector_row.Row). r.vect ≡ cells_of dist pivots r.object) (sym at) (vects k row below) in
       let object : admitted row.object = subst (λ (r : vector_row.Row). admitted r.object) (sym at) (objects k row below) in
       subst (λ v. lower_bound (vector_of dist pivots query) v ≤ dist query row.object) (sym vect) (holds.bound_below query row.object asks object)

@@ -116,7 +116,7 @@ take-far k xs ys all = ap (take k) (sym (swapped xs ys)) ∙ in_front ys all whe
   in_front [] all = refl
   in_front (y ∷ ys) all =
       let many : k ≤ count_before y (sorted_by goes_before (ys ++ xs)) =
-          (let a = count_before-sorted_by y (ys ++ xs) in let b = count_before-append y ys xs in omega (arith, a, b, all.0)) in
+      (let a = count_before-sorted_by y (ys ++ xs) in let b = count_before-append y ys xs in omega (arith, a, b, all.0)) in
       take-with_inserted y k (sorted_by goes_before (ys ++ xs)) (in_order-sorted_by (ys ++ xs)) many ∙ in_front ys all.1
 
 once : (k : ℕ) (y : Pair) (ys : List Pair) → take k (y ∷ take k ys) ≡ take k (y ∷ ys)
@@ -215,12 +215,12 @@ pub put-many : (k : ℕ) (r greatest : Pair) (old amid new : List Pair) → IsPe
 unfolding sorted_by
 put-many k r greatest old amid new first second below long =
     let last : sorted_by goes_before (new ++ greatest ∷ []) ≡ sorted_by goes_before new ++ greatest ∷ [] =
-        laws.sorted_by-append goes_before laws.pair_order new (greatest ∷ []) (behind new below) in
+    laws.sorted_by-append goes_before laws.pair_order new (greatest ∷ []) (behind new below) in
     let whole : with_inserted goes_before r (sorted_by goes_before old) ≡ sorted_by goes_before new ++ greatest ∷ [] =
     sym (sorted_by-permuted (r ∷ old) amid first) ∙ sym (sorted_by-permuted amid (greatest ∷ new) second)
-        ∙ sorted_by-permuted (new ++ greatest ∷ []) (greatest ∷ new) (IsPermutation-to_front new greatest) ∙ last in
+    ∙ sorted_by-permuted (new ++ greatest ∷ []) (greatest ∷ new) (IsPermutation-to_front new greatest) ∙ last in
     sym (ap (take k) whole ∙ ap (λ n. take n (sorted_by goes_before new ++ greatest ∷ [])) (sym (laws.sorted_by-length goes_before new ∙ long))
-        ∙ take-append_seam (sorted_by goes_before new) (greatest ∷ []))
+    ∙ take-append_seam (sorted_by goes_before new) (greatest ∷ []))
   where
     behind : (xs : List Pair) → AllByRecursion (λ (y : Pair). goes_before greatest y ≡ false) xs → laws.AreAllAfter goes_before xs (greatest ∷ [])
     behind [] all = tt
@@ -269,12 +269,12 @@ open-many k greatest r (x ∷ xs) long some at below = step (goes_before greates
 pub popped : (k : ℕ) (r : Pair) (old amid new : List Pair) (top : Option Pair) (heaped : Type 0) → IsPermutation (r ∷ old) amid
     → IfSome top (λ (x : Pair). IsPermutation amid (x ∷ new)) → heaped
     → IfSome top (λ (x : Pair). heaped → AllByRecursion (λ (y : Pair). goes_before x y ≡ false) new) → IfNone top (length amid ≡ 0) → length old ≤ k
-        → k < length amid
+    → k < length amid
     → sorted_by goes_before new ≡ take k (with_inserted goes_before r (sorted_by goes_before old))
 popped k r old amid new None heaped first second is below none few many = absurd (omega (arith, many, none))
 popped k r old amid new (Some x) heaped first second is below none few many =
     put-many k r x old amid new first second (below is) (let a = length_permutation _ _ first in let b = length_permutation _ _ second in
-        omega (arith, a, b, few, many))
+    omega (arith, a, b, few, many))
 
 pub none_left : (top : Option Pair) (n m : ℕ) → n ≡ m → IfNone top (m ≡ 0) → IfNone top (n ≡ 0)
 none_left None n m same h = same ∙ h

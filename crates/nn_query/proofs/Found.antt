@@ -46,7 +46,7 @@ module _ (dist : List ℕ → List ℕ → ℕ) (query : List ℕ) where
       let one : suc (k - 1) ≡ k = omega (arith, some) in
       not_behind-is pivots (kth_rank dist rows query k) row
       ∙ ap not (past-is b (k - 1) (sorted_by goes_before ranks) (in_order-sorted_by ranks)
-          ∙ ap (λ n. nat_le n (count_before b (sorted_by goes_before ranks))) one ∙ ap (nat_le k) (count_before-sorted_by b ranks))
+      ∙ ap (λ n. nat_le n (count_before b (sorted_by goes_before ranks))) one ∙ ap (nat_le k) (count_before-sorted_by b ranks))
 
 few : (k n : ℕ) → n < k → not (nat_le k n) ≡ true
 few k n h = grind (arith, nat_tests)
@@ -69,8 +69,8 @@ dropped p f (x ∷ xs) all = ap (λ (b : Bool). if b then f x ∷ filter p (map 
 module _ (dist : List ℕ → List ℕ → ℕ) (pivots : List (List ℕ)) (query : List ℕ) (object_at : ℕ
     → List ℕ) (entries : List Entry) (cs : List Candidate) (k n : ℕ) (least : List Pair)
     (some : 1 ≤ k) (moved : IsPermutation entries (entries_at object_at cs))
-        (keys : All (λ (c : Candidate). bound_rank c ≡ rank_bound dist pivots query (entry_at object_at c)) cs)
-        (visited : Visited dist object_at query cs k n least) where
+    (keys : All (λ (c : Candidate). bound_rank c ≡ rank_bound dist pivots query (entry_at object_at c)) cs)
+    (visited : Visited dist object_at query cs k n least) where
   abbrev pub in_reach : Entry → Bool
   in_reach = is_in_reach dist pivots query (kth_rank dist entries query k)
 
@@ -107,9 +107,9 @@ module _ (dist : List ℕ → List ℕ → ℕ) (pivots : List (List ℕ)) (quer
   evals-found =
       let a : count_by in_reach (entries_at object_at cs) ≡ count_by in_reach entries = sum_by-IsPermutation _ _ _ moved in
       let b : length (filter in_reach (entries_at object_at cs)) ≡ count_by in_reach (entries_at object_at cs) =
-          length-filter in_reach (entries_at object_at cs) in
+      length-filter in_reach (entries_at object_at cs) in
       let c : length (filter in_reach (entries_at object_at cs)) ≡ n = ap length reached ∙ length-map (take n cs) (entry_at object_at)
-          ∙ length-take-le n cs visited.within in omega (arith, a, b, c)
+      ∙ length-take-le n cs visited.within in omega (arith, a, b, c)
 
   -- the objects that are looked at are those in reach, by their bounds and ids
   module _ (distinct : laws.HasDistinctKeys (rank_bound dist pivots query) entries) (rises : IsSortedByBound cs) where
@@ -133,7 +133,7 @@ module _ (dist : List ℕ → List ℕ → ℕ) (pivots : List (List ℕ)) (quer
         let weak = laws.weak_by_key goes_before laws.pair_order (rank_bound dist pivots query) in
         let whole : entries_at object_at cs ≡ sorted_by by entries =
         laws.arranged_by-unique goes_before laws.pair_order (rank_bound dist pivots query) entries (entries_at object_at cs) moved distinct
-            (laws.in_order-from_sorted by weak (entries_at object_at cs) bounds-rise) in
+        (laws.in_order-from_sorted by weak (entries_at object_at cs) bounds-rise) in
         let rows : sorted_by by (filter in_reach entries) ≡ entries_at object_at (take n cs) =
         laws.arranged_by-filter goes_before laws.pair_order (rank_bound dist pivots query) in_reach entries ∙ ap (filter in_reach) (sym whole) ∙ reached in
         sym (map-append (λ (o : List ℕ). (query, o)) pivots (objects_at object_at (take n cs)))

@@ -67,7 +67,7 @@ module _ (dist : List ℕ → List ℕ → ℕ) (object_at : ℕ → List ℕ) (
       ap (λ (d : Candidate). each_with query (objects_at object_at (take i cs)) ++ (query, object_at d.place) ∷ []) at
       ∙ sym (map-append (λ (o : List ℕ). (query, o)) (objects_at object_at (take i cs)) (object_at (get_or cs i c).place ∷ []))
       ∙ ap (each_with query) (sym (map-append (λ (x : Candidate). object_at x.place) (take i cs) (get_or cs i c ∷ []))
-          ∙ ap (objects_at object_at) (sym (take_more cs i c within)))
+      ∙ ap (objects_at object_at) (sym (take_more cs i c within)))
 
   -- ---- what the ranks that were seen decide
 

@@ -79,7 +79,7 @@ goes-is a b =
     is_lt-then (nat_lt a.bound b.bound) (a.bound == b.bound) _
     ∙ ap (λ t. nat_lt a.bound b.bound || ((a.bound == b.bound) && t)) (kind-then a.kind b.kind (nat_cmp a.place b.place)
     ∙ ap (λ t. nat_lt (rank a.kind) (rank b.kind) || ((rank a.kind == rank b.kind) && (nat_lt (tie a.kind) (tie b.kind) || ((tie a.kind == tie b.kind) && t))))
-        (is_lt-last (nat_lt a.place b.place) (a.place == b.place)))
+    (is_lt-last (nat_lt a.place b.place) (a.place == b.place)))
 
 -- ---- candidates
 
@@ -228,7 +228,7 @@ less-or x y h = elim (cases_Bool (goes_before x y)) [
 pub open-first : (k : ℕ) (ranks : List Pair) (f w : Waiting) → count_before (least_rank f) ranks < k → IsPruned k ranks w → is_visited_before w f ≡ false
 open-first k ranks f w room shut =
     let less : goes_before (least_rank f) (least_rank w) ≡ true =
-        less-or (least_rank f) (least_rank w) (λ h. let a = count_before-more (least_rank w) (least_rank f) ranks h in omega (arith, a, room, shut)) in
+    less-or (least_rank f) (least_rank w) (λ h. let a = count_before-more (least_rank w) (least_rank f) ranks h in omega (arith, a, room, shut)) in
     goes-is w f ∙ first-test f.bound w.bound f.place w.place f.kind w.kind (sym (goes_before-is (least_rank f) (least_rank w)) ∙ less)
 
 -- ---- the heap

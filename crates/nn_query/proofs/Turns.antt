@@ -61,12 +61,12 @@ module _ (nodes : Nodes) where
       → is_visited_before (record { bound = bound; kind = k; place = place }) (record { bound = f.bound; kind = Object id; place = f.place }) ≡ false
       → AllByRecursion (λ (c : Candidate). bound ≤ c.bound) (candidates_of_kind nodes bound place k)
       → AllByRecursion (λ (c : Candidate). candidate_is_before c (record { bound = f.bound; id = id; place = f.place }) ≡ false)
-          (candidates_of_kind nodes bound place k)
+      (candidates_of_kind nodes bound place k)
   later-kind f id bound place (Node level) is first all =
       let less = node-further bound level place f.bound id f.place first in
       let this : Candidate = record { bound = f.bound; id = id; place = f.place } in
       all-weaker (λ (c : Candidate). bound ≤ c.bound) (λ (c : Candidate). candidate_is_before c this ≡ false)
-          (λ c h. bound-later c this (omega (arith, less, h))) (nodes.objects level place) all
+      (λ c h. bound-later c this (omega (arith, less, h))) (nodes.objects level place) all
   later-kind f id bound place (Object next) is first all = (object-later bound next place f.bound id f.place first, tt)
 
   -- the weight of what is put in
@@ -77,7 +77,7 @@ module _ (nodes : Nodes) where
       let a : sum_by (weight_of nodes) items ≡ sum_by (weight_of nodes) (f ∷ new) = sym (sum_by-IsPermutation (weight_of nodes) items (f ∷ new) moved) in
       let b = sum_by-cons (weight_of nodes) f new in
       let c : sum_by (weight_of nodes) opens.rows ≡ sum_by (weight_of nodes) (opens.put_in ++ opens.left_out) =
-          sym (sum_by-IsPermutation (weight_of nodes) opens.rows _ opens.parts) in
+      sym (sum_by-IsPermutation (weight_of nodes) opens.rows _ opens.parts) in
       let d = sum_by-append (weight_of nodes) opens.put_in opens.left_out in
       let e : sum_by (weight_of nodes) (opens.put_in ++ new) ≡ sum_by (weight_of nodes) now = sym (sum_by-IsPermutation (weight_of nodes) _ now opens.added) in
       let h = sum_by-append (weight_of nodes) opens.put_in new in
@@ -123,7 +123,7 @@ module _ (dist : List ℕ → List ℕ → ℕ) (object_at : ℕ → List ℕ) (
         shut = tt;
         counted =
             (let whole = ap (λ xs. count_by (λ b. nat_lt (count_before (b, 0) (ranks_at dist object_at query (queued_candidates nodes items))) k)
-                (flat_map (bounds_under nodes) xs)) none in
+            (flat_map (bounds_under nodes) xs)) none in
             omega (arith, whole));
       }
 
@@ -157,14 +157,14 @@ module _ (dist : List ℕ → List ℕ → ℕ) (object_at : ℕ → List ℕ) (
         → AllByRecursion (λ (c : Candidate). k ≤ count_before (bound_rank c) seen) (candidates_under nodes w)
     keys-shut w h =
         all-weaker (λ (c : Candidate). goes_before (bound_rank c) (least_rank w) ≡ false) (λ (c : Candidate). k ≤ count_before (bound_rank c) seen)
-            (λ c later. let a = count_before-more (least_rank w) (bound_rank c) seen later in let b = h.1 in omega (arith, a, b)) (candidates_under nodes w)
+        (λ c later. let a = count_before-more (least_rank w) (bound_rank c) seen later in let b = h.1 in omega (arith, a, b)) (candidates_under nodes w)
         (keys-kind nodes w.bound w.place w.kind (h.0).objects)
 
     bounds-shut : (w : Waiting) → (IsLeast nodes is_sound w) × (IsPruned k seen w) → AllByRecursion (λ (b : ℕ). in_reach b ≡ false) (bounds_under nodes w)
     bounds-shut w h =
         all-weaker (λ (b : ℕ). goes_before (b, 0) (least_rank w) ≡ false) (λ (b : ℕ). in_reach b ≡ false)
         (λ b later. without-is k _ (let a = count_before-more (least_rank w) (b, 0) seen later in let c = no-fewer dist object_at query cs n lower (b, 0) in
-            let d = h.1 in omega (arith, a, c, d))) (bounds_under nodes w)
+        let d = h.1 in omega (arith, a, c, d))) (bounds_under nodes w)
         (bounds-in-kind nodes w.bound w.place w.kind (h.0).bounds)
 
     finished : (ws : List Waiting) → IsPermutation (items ++ looked.aside) ws → AllByRecursion (IsPruned k seen) ws → Visited dist object_at query cs k n least
@@ -175,15 +175,15 @@ module _ (dist : List ℕ → List ℕ → ℕ) (object_at : ℕ → List ℕ) (
         (all-sorted_by candidate_is_before (λ (c : Candidate). k ≤ count_before (bound_rank c) seen) (flat_map (candidates_under nodes) (items ++ looked.aside))
         (moved-back (λ (c : Candidate). k ≤ count_before (bound_rank c) seen) _ _ (permutation-flat_map (candidates_under nodes) _ ws moved)
         (all-pieces (λ w. (IsLeast nodes is_sound w)
-            × (IsPruned k seen w)) (λ (c : Candidate). k ≤ count_before (bound_rank c) seen) (candidates_under nodes) keys-shut ws both))))
+        × (IsPruned k seen w)) (λ (c : Candidate). k ≤ count_before (bound_rank c) seen) (candidates_under nodes) keys-shut ws both))))
 
     none-left : (ws : List Waiting) → IsPermutation (items ++ looked.aside) ws → AllByRecursion (IsPruned k seen) ws → opened ≡ all
     none-left ws moved shut =
         let both = all-both (IsLeast nodes is_sound) (IsPruned k seen) ws (all-moved (IsLeast nodes is_sound) _ ws moved looked.bounded) shut in
         let none = count-none in_reach (bounds_of ws)
-            (all-pieces (λ w. (IsLeast nodes is_sound w) × (IsPruned k seen w)) (λ (b : ℕ). in_reach b ≡ false) (bounds_under nodes) bounds-shut ws both) in
+        (all-pieces (λ w. (IsLeast nodes is_sound w) × (IsPruned k seen w)) (λ (b : ℕ). in_reach b ≡ false) (bounds_under nodes) bounds-shut ws both) in
         let same : count_by in_reach (bounds_of ws) ≡ count_by in_reach (bounds_of (items ++ looked.aside)) =
-            sum_by-IsPermutation _ _ _ (permutation-flat_map (bounds_under nodes) _ ws moved) in
+        sum_by-IsPermutation _ _ _ (permutation-flat_map (bounds_under nodes) _ ws moved) in
         let counted = looked.counted in omega (arith, none, same, counted)
 
     -- the queue is empty: what is left was left out of it
@@ -215,10 +215,12 @@ module _ (dist : List ℕ → List ℕ → ℕ) (object_at : ℕ → List ℕ) (
       -- it is pruned, and so are all the others
       all-shut : true ≡ nat_le k (count_before (least_rank f) least) → AllByRecursion (IsPruned k seen) (f ∷ rest)
       all-shut shut =
-          let this : IsPruned k seen f = shut-is k _ (shut ∙ told-by) in
-          (this, all-append (IsPruned k seen) new looked.aside
-              (all-weaker (λ (w : Waiting). is_visited_before w f ≡ false) (IsPruned k seen) (λ w h. let a =
-              count_before-more (least_rank f) (least_rank w) seen (key-later f w h) in omega (arith, a, this)) new first) looked.shut)
+          let this : IsPruned k seen f = shut-is k _ (shut ∙ told-by) in (
+            this,
+            all-append (IsPruned k seen) new looked.aside
+                (all-weaker (λ (w : Waiting). is_visited_before w f ≡ false) (IsPruned k seen) (λ w h. let a =
+                count_before-more (least_rank f) (least_rank w) seen (key-later f w h) in omega (arith, a, this)) new first) looked.shut,
+          )
 
       pub visited-shut : true ≡ nat_le k (count_before (least_rank f) least) → Visited dist object_at query cs k n least
       visited-shut shut = finished (f ∷ rest) moved-on (all-shut shut)
@@ -236,27 +238,29 @@ module _ (dist : List ℕ → List ℕ → ℕ) (object_at : ℕ → List ℕ) (
             (all-weaker (IsPruned k seen) (λ (w : Waiting). is_visited_before w f ≡ false) (λ w h. open-first k seen f w room h) looked.aside looked.shut)
 
         keys-later : AllByRecursion (λ (w : Waiting). goes_before (least_rank w) (least_rank f) ≡ false) (f ∷ rest)
-        keys-later = (pair_order.never_itself (least_rank f),
-            all-weaker (λ (w : Waiting). is_visited_before w f ≡ false) (λ (w : Waiting). goes_before (least_rank w) (least_rank f) ≡ false)
-            (λ w h. key-later f w h) rest rest-later)
+        keys-later = (
+          pair_order.never_itself (least_rank f),
+          all-weaker (λ (w : Waiting). is_visited_before w f ≡ false) (λ (w : Waiting). goes_before (least_rank w) (least_rank f) ≡ false)
+              (λ w h. key-later f w h) rest rest-later,
+        )
 
         candidates_under-later : (w : Waiting) → (IsLeast nodes is_sound w) × (goes_before (least_rank w) (least_rank f) ≡ false)
             → AllByRecursion (λ (c : Candidate). goes_before (bound_rank c) (least_rank f) ≡ false) (candidates_under nodes w)
         candidates_under-later w h =
             all-weaker (λ (c : Candidate). goes_before (bound_rank c) (least_rank w) ≡ false)
-                (λ (c : Candidate). goes_before (bound_rank c) (least_rank f) ≡ false)
-                (λ c later. order.chain (bound_rank c) (least_rank w) (least_rank f) later h.1) (candidates_under nodes w)
+            (λ (c : Candidate). goes_before (bound_rank c) (least_rank f) ≡ false)
+            (λ c later. order.chain (bound_rank c) (least_rank w) (least_rank f) later h.1) (candidates_under nodes w)
             (keys-kind nodes w.bound w.place w.kind (h.0).objects)
 
         left-later : AllByRecursion (λ (c : Candidate). goes_before (bound_rank c) (least_rank f) ≡ false) (drop n cs)
         left-later =
             subst (AllByRecursion (λ (c : Candidate). goes_before (bound_rank c) (least_rank f) ≡ false)) (sym looked.left)
             (all-sorted_by candidate_is_before (λ (c : Candidate). goes_before (bound_rank c) (least_rank f) ≡ false)
-                (flat_map (candidates_under nodes) (items ++ looked.aside))
+            (flat_map (candidates_under nodes) (items ++ looked.aside))
             (moved-back (λ (c : Candidate). goes_before (bound_rank c) (least_rank f) ≡ false) _ _
-                (permutation-flat_map (candidates_under nodes) _ (f ∷ rest) moved-on)
+            (permutation-flat_map (candidates_under nodes) _ (f ∷ rest) moved-on)
             (all-pieces (λ w. (IsLeast nodes is_sound w) × (goes_before (least_rank w) (least_rank f) ≡ false))
-                (λ (c : Candidate). goes_before (bound_rank c) (least_rank f) ≡ false) (candidates_under nodes) candidates_under-later (f ∷ rest)
+            (λ (c : Candidate). goes_before (bound_rank c) (least_rank f) ≡ false) (candidates_under nodes) candidates_under-later (f ∷ rest)
             (all-both (IsLeast nodes is_sound) (λ (w : Waiting). goes_before (least_rank w) (least_rank f) ≡ false) (f ∷ rest) bounded keys-later))))
 
         -- fewer than k of all ranks go before its key
@@ -267,7 +271,7 @@ module _ (dist : List ℕ → List ℕ → ℕ) (object_at : ℕ → List ℕ) (
         counts =
             sym (sum_by-IsPermutation _ _ _ (permutation-flat_map (bounds_under nodes) _ (f ∷ rest) moved-on))
             ∙ ap (count_by in_reach) (flat_map-cons (bounds_under nodes) f rest)
-                ∙ sum_by-append (λ b. if in_reach b then 1 else 0) (bounds_under nodes f) (bounds_of rest)
+            ∙ sum_by-append (λ b. if in_reach b then 1 else 0) (bounds_under nodes f) (bounds_of rest)
 
         -- ---- an object is measured
 
@@ -285,7 +289,7 @@ module _ (dist : List ℕ → List ℕ → ℕ) (object_at : ℕ → List ℕ) (
           candidates-later : AllByRecursion (λ (c : Candidate). candidate_is_before c this ≡ false) (flat_map (candidates_under nodes) rest)
           candidates-later =
               all-pieces (λ w. (IsLeast nodes is_sound w)
-                  × (is_visited_before w f ≡ false)) (λ (c : Candidate). candidate_is_before c this ≡ false) (candidates_under nodes)
+              × (is_visited_before w f ≡ false)) (λ (c : Candidate). candidate_is_before c this ≡ false) (candidates_under nodes)
               (λ w h. later-kind nodes f id w.bound w.place w.kind is (subst (λ (g : Waiting). is_visited_before w g ≡ false) itself h.1) (h.0).objects) rest
               (all-both (IsLeast nodes is_sound) (λ (w : Waiting). is_visited_before w f ≡ false) rest bounded.1 rest-later)
 
@@ -294,7 +298,7 @@ module _ (dist : List ℕ → List ℕ → ℕ) (object_at : ℕ → List ℕ) (
               looked.left
               ∙ sorted_by-same candidate_is_before first_order _ _ (permutation-flat_map (candidates_under nodes) _ (f ∷ rest) moved-on)
               ∙ ap (sorted_by candidate_is_before) (flat_map-cons (candidates_under nodes) f rest
-                  ∙ ap (λ kind. candidates_of_kind nodes f.bound f.place kind ++ flat_map (candidates_under nodes) rest) is)
+              ∙ ap (λ kind. candidates_of_kind nodes f.bound f.place kind ++ flat_map (candidates_under nodes) rest) is)
               ∙ sorted_by-append candidate_is_before first_order (this ∷ []) (flat_map (candidates_under nodes) rest) (candidates-later, tt)
               ∙ ap (λ xs. xs ++ queued_candidates nodes rest) one
 
@@ -320,7 +324,7 @@ module _ (dist : List ℕ → List ℕ → ℕ) (object_at : ℕ → List ℕ) (
             shut =
                 subst (λ rs. AllByRecursion (IsPruned k rs) looked.aside) (sym (seen-more dist object_at query cs n this within at))
                 (all-weaker (IsPruned k seen) (IsPruned k (seen ++ rank_at dist object_at query this ∷ [])) (λ w h. let a =
-                    count_before-append (least_rank w) seen (rank_at dist object_at query this ∷ []) in omega (arith, a, h)) looked.aside looked.shut);
+                count_before-append (least_rank w) seen (rank_at dist object_at query this ∷ []) in omega (arith, a, h)) looked.aside looked.shut);
             counted =
                 (let a = counts in
                 let b : count_by in_reach (bounds_under nodes f) ≡ 0 = ap (λ kind. count_by in_reach (bounds_kind nodes f.bound f.place kind)) is in
@@ -344,18 +348,18 @@ module _ (dist : List ℕ → List ℕ → ℕ) (object_at : ℕ → List ℕ) (
               (subst (λ xs. IsPermutation xs (now ++ more)) (sym (append_assoc opens.put_in opens.left_out rest))
               (IsPermutation-trans _ _ _ (IsPermutation-append_right opens.put_in _ _ (permutation-fronts opens.left_out new looked.aside))
               (subst (λ xs. IsPermutation xs (now ++ more)) (append_assoc opens.put_in new more)
-                  (IsPermutation-append_left more (opens.put_in ++ new) now opens.added))))
+              (IsPermutation-append_left more (opens.put_in ++ new) now opens.added))))
 
           same-objects : queued_candidates nodes (items ++ looked.aside) ≡ queued_candidates nodes (now ++ more)
           same-objects =
               sorted_by-same candidate_is_before first_order _ _
               (IsPermutation-trans _ _ _ (permutation-flat_map (candidates_under nodes) _ (f ∷ rest) moved-on)
               (subst (λ xs. IsPermutation xs (flat_map (candidates_under nodes) (now ++ more)))
-                  (sym (flat_map-cons (candidates_under nodes) f rest
-                  ∙ ap (λ kind. candidates_of_kind nodes f.bound f.place kind ++ flat_map (candidates_under nodes) rest) is))
+              (sym (flat_map-cons (candidates_under nodes) f rest
+              ∙ ap (λ kind. candidates_of_kind nodes f.bound f.place kind ++ flat_map (candidates_under nodes) rest) is))
               (IsPermutation-trans _ _ _ (IsPermutation-append_left (flat_map (candidates_under nodes) rest) _ _ opens.objects)
               (subst (λ xs. IsPermutation xs (flat_map (candidates_under nodes) (now ++ more))) (flat_map-append (candidates_under nodes) opens.rows rest)
-                  (permutation-flat_map (candidates_under nodes) _ _ replaced)))))
+              (permutation-flat_map (candidates_under nodes) _ _ replaced)))))
 
           sound : is_sound level f.place
           sound = subst (IsSoundKind is_sound f.place) is (bounded.0).sound
@@ -371,9 +375,9 @@ module _ (dist : List ℕ → List ℕ → ℕ) (object_at : ℕ → List ℕ) (
               let b = ap (λ kind. count_by in_reach (bounds_kind nodes f.bound f.place kind)) is in
               let c = sum_by-cons (λ m. if in_reach m then 1 else 0) f.bound (nodes.bounds level f.place) in
               let d : count_by in_reach (nodes.bounds level f.place) ≡ count_by in_reach (bounds_of opens.rows) =
-                  sym (sum_by-IsPermutation _ _ _ opens.bounds) in
+              sym (sum_by-IsPermutation _ _ _ opens.bounds) in
               let e : count_by in_reach (bounds_of (opens.rows ++ rest)) ≡ count_by in_reach (bounds_of (now ++ more)) =
-                  sym (sum_by-IsPermutation _ _ _ (permutation-flat_map (bounds_under nodes) _ _ replaced)) in
+              sym (sum_by-IsPermutation _ _ _ (permutation-flat_map (bounds_under nodes) _ _ replaced)) in
               let g = ap (count_by in_reach) (flat_map-append (bounds_under nodes) opens.rows rest) in
               let h = sum_by-append (λ m. if in_reach m then 1 else 0) (bounds_of opens.rows) (bounds_of rest) in
               omega (arith, one, a, b, c, d, e, g, h)
@@ -389,6 +393,6 @@ module _ (dist : List ℕ → List ℕ → ℕ) (object_at : ℕ → List ℕ) (
             shut =
                 all-append (IsPruned k seen) opens.left_out looked.aside
                 (all-weaker (IsPruned k least) (IsPruned k seen)
-                    (λ w h. le-told k _ _ (told dist object_at query cs n lower k least looked.first (least_rank w)) h) opens.left_out opens.shut) looked.shut;
+                (λ w h. le-told k _ _ (told dist object_at query cs n lower k least looked.first (least_rank w)) h) opens.left_out opens.shut) looked.shut;
             counted = (let a = counts-now in let b = looked.counted in omega (arith, a, b));
           }

@@ -68,7 +68,7 @@ pub record Expands (nodes : Nodes) (is_sound : ℕ → ℕ → Type 0) (can_visi
 abbrev pub nodes_in_reach : Distance → (ℕ → List ℕ) → List ℕ → Nodes → ℕ → List Waiting → ℕ
 nodes_in_reach dist object_at query nodes k items =
     count_by (λ b. nat_lt (count_before (b, 0) (ranks_of dist (entries_at object_at (queued_candidates nodes items)) query)) k)
-        (flat_map (bounds_under nodes) items)
+    (flat_map (bounds_under nodes) items)
 
 -- The first n candidates are those before whose bound and id fewer than k ranks of all candidates go, and the least
 -- ranks are the first k of all.

@@ -82,20 +82,20 @@ fn visit_in_order<H: Hierarchy, R: Ruler>(
     requires none { least_of best.old ≡ [] }
     ensures visited { IfOk result (λ seen.
         AreBounds (R.dist (R.kind ruler.old)) (H.object_at (H.content held.old)) q.now (H.nodes (H.content held.old)) (H.is_sound (H.content held.old))
-            (items_of queue)
+        (items_of queue)
         → Visited (R.dist (R.kind ruler.old)) (H.object_at (H.content held.old)) q.now (queued_candidates (H.nodes (H.content held.old)) (items_of queue))
-            best.old.most seen.measured (least_of best.new)) }
+        best.old.most seen.measured (least_of best.new)) }
     ensures opened { IfOk result (λ seen.
         AreBounds (R.dist (R.kind ruler.old)) (H.object_at (H.content held.old)) q.now (H.nodes (H.content held.old)) (H.is_sound (H.content held.old))
-            (items_of queue)
+        (items_of queue)
         → seen.opened ≡ nodes_in_reach (R.dist (R.kind ruler.old)) (H.object_at (H.content held.old)) q.now (H.nodes (H.content held.old)) best.old.most
-            (items_of queue)) }
+        (items_of queue)) }
     ensures log { IfOk result (λ seen.
         AreBounds (R.dist (R.kind ruler.old)) (H.object_at (H.content held.old)) q.now (H.nodes (H.content held.old)) (H.is_sound (H.content held.old))
-            (items_of queue)
+        (items_of queue)
         → LogExtends (R.log ruler.old) (R.log ruler.new)
         (each_with q.now (objects_at (H.object_at (H.content held.old))
-            (take seen.measured (queued_candidates (H.nodes (H.content held.old)) (items_of queue)))))) }
+        (take seen.measured (queued_candidates (H.nodes (H.content held.old)) (items_of queue)))))) }
     ensures few { IfOk result (λ seen. seen.measured + seen.opened ≤ sum_by (weight_of (H.nodes (H.content held.old))) (items_of queue)) }
     ensures count { IfOk result (λ seen. R.count ruler.new ≡ R.count ruler.old + seen.measured) }
     ensures ruler { RulerContinues R.kind R.count ruler.old ruler.new }

@@ -21,7 +21,7 @@ alike_slots old new place other long same apart =
     let long_old = length-take 128 (drop (128 * other) old) in
     let long_new = length-take 128 (drop (128 * other) new) in
     let alike : length (take 128 (drop (128 * other) new)) ≡ length (take 128 (drop (128 * other) old)) =
-      omega (arith, long, long_old, long_new, length-drop (128 * other) old, length-drop (128 * other) new) in
+    omega (arith, long, long_old, long_new, length-drop (128 * other) old, length-drop (128 * other) new) in
     ext_get_or 0 (take 128 (drop (128 * other) new)) (take 128 (drop (128 * other) old)) alike (λ k lt.
     let below : k < 128 = omega (arith, lt, long_new) in
     get_or-take 128 (drop (128 * other) new) k 0 below ∙ get_or-drop (128 * other) new k 0
@@ -83,8 +83,8 @@ filled collection id object n small fits short =
     let of_four : nat_lt collection 4 ≡ true = grind (arith, nat_tests, small) in
     let enough : nat_le (length object) 120 ≡ true = grind (arith, nat_tests, short) in
     let zeros : are_zero (drop (8 + length object) full) ≡ true =
-      ap are_zero (sym (drop-drop (length object) 8 full) ∙ ap (drop (length object)) body ∙ drop_at object (replicate n 0) (length object) refl)
-          ∙ zeros_are n in
+    ap are_zero (sym (drop-drop (length object) 8 full) ∙ ap (drop (length object)) body ∙ drop_at object (replicate n 0) (length object) refl)
+    ∙ zeros_are n in
     let is : is_filled_slot full ≡ true = λ i. of_four i && enough i && true && zeros i in
     let number : id_in full ≡ id = read_back id (object ++ replicate n 0) fits in
     let content : take (length object) (drop 8 full) ≡ object = ap (take (length object)) body ∙ take_at object (replicate n 0) (length object) refl in
@@ -127,7 +127,7 @@ pub sets_filled : (page slot : List ℕ) (place collection id : ℕ) (object : L
 sets_filled page slot place collection id object n count whole few all small fits short left is =
     let front = collection ∷ length object ∷ 0 ∷ 0 ∷ number_bytes id in
     let long : length slot ≡ 128 = ap length is ∙ length-append front (object ++ replicate n 0)
-      ∙ omega (arith, length-number_bytes id, length-append object (replicate n 0), length-replicate {A = ℕ} n 0, left, short) in
+    ∙ omega (arith, length-number_bytes id, length-append object (replicate n 0), length-replicate {A = ℕ} n 0, left, short) in
     subst (λ m. SetsPlace place (Holds collection id object) page (put_mid (128 * place) m page slot)) (sym all) (record {
       here = ap slot_of (put_place page slot place whole few long ∙ is) ∙ filled collection id object n small fits short;
       others = λ other apart. alike_slots page (put_mid (128 * place) 128 page slot) place other (put_long page slot place whole few long)

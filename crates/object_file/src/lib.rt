@@ -5,7 +5,9 @@ mod file;
 mod slots;
 
 pub use file::{ObjectFile, SLOTS_PER_PAGE, slot_page};
-pub use slots::{COLLECTIONS, OBJECT_LIMIT, SLOT_SIZE, SlotContent, SlotHead, fill_slot, read_slot};
+pub use slots::{
+    COLLECTIONS, OBJECT_LIMIT, SLOT_SIZE, SlotContent, SlotHead, fill_slot, read_slot,
+};
 
 #[cfg(test)]
 mod tests;

@@ -25,7 +25,7 @@ pub completed-none : (dim most : ℕ) (ns : List ℕ) (word : List ℕ) (words :
     → completed dim most ns (word ∷ words) ≡ None
 completed-none dim most ns word words e =
     ap (λ (o : Option ℕ). option_and_then (λ ms. vector_with dim (ns ++ ms))
-        (option_and_then (λ n. option_and_then (λ ms. Some (n ∷ ms)) (numbers_within most words)) o)) e
+    (option_and_then (λ n. option_and_then (λ ms. Some (n ∷ ms)) (numbers_within most words)) o)) e
 
 moved : (dim n : ℕ) (ns : List ℕ) (read : Option (List ℕ))
     → option_and_then (λ ms. vector_with dim (ns ++ ms)) (option_and_then (λ ms. Some (n ∷ ms)) read)
@@ -37,7 +37,7 @@ pub completed-more : (dim most n : ℕ) (ns : List ℕ) (word : List ℕ) (words
     → completed dim most ns (word ∷ words) ≡ completed dim most (ns ++ n ∷ []) words
 completed-more dim most n ns word words e =
     ap (λ (o : Option ℕ). option_and_then (λ ms. vector_with dim (ns ++ ms))
-        (option_and_then (λ k. option_and_then (λ ms. Some (k ∷ ms)) (numbers_within most words)) o)) e
+    (option_and_then (λ k. option_and_then (λ ms. Some (k ∷ ms)) (numbers_within most words)) o)) e
     ∙ moved dim n ns (numbers_within most words)
 
 other_length : (dim : ℕ) (ns : List ℕ) → (length ns ≡ dim → ⊥) → vector_with dim ns ≡ None
@@ -134,6 +134,6 @@ ends dim most done n object new rest whole b end some e =
     let pushed : length (b.numbers ++ n ∷ []) ≡ length b.numbers + 1 = length-append b.numbers (n ∷ []) in
     let count = b.count in
     let bytes : new ≡ object_of_components (b.numbers ++ n ∷ []) = e ∙ ap (λ (bytes : List ℕ). bytes ++ to_be_bytes w32 n) b.bytes
-        ∙ sym (object_of_components-push b.numbers n) in
+    ∙ sym (object_of_components-push b.numbers n) in
     b.goes_on ∙ ap (completed dim most b.numbers) (number_within-whole most n rest some) ∙ completed-more dim most n b.numbers rest [] some
     ∙ completed-whole dim most (b.numbers ++ n ∷ []) (omega arith) ∙ ap (λ (o : List ℕ). Some o) (sym bytes)

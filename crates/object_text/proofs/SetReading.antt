@@ -114,7 +114,7 @@ pub no_number : (universe most done : ℕ) (text word : List ℕ) → bytes_eq t
 no_number universe most done text word dash more is none =
     none_read universe most text dash (λ ns e rising few.
     let at : number_within (universe - 1) word ≡ Some (get_or ns done 0) = ap (number_within (universe - 1)) (word_is text word done more is)
-        ∙ number_at (universe - 1) (words_of text) ns done e more in
+    ∙ number_at (universe - 1) (words_of text) ns done e more in
     absurd (cc (at, none)))
 
 same_number : (m n : ℕ) → ◌≡◌ {A = Option ℕ} (Some m) (Some n) → m ≡ n
@@ -127,7 +127,7 @@ front_number bound done k words ns whole e f count inside more =
     let many : length ns ≡ length (take done words) = length-numbers_within bound (take done words) ns e in
     same_number (get_or whole k 0) (get_or ns k 0)
     (sym (number_at bound words whole k f more) ∙ ap (number_within bound) (sym (get_or-take done words k [] inside))
-        ∙ number_at bound (take done words) ns k e (omega arith))
+    ∙ number_at bound (take done words) ns k e (omega arith))
 
 falls : (universe most done least element : ℕ) (object text : List ℕ) (ns : List ℕ) → IsBegun universe most done least object text
     → done < length (words_of text) → numbers_in (universe - 1) text ≡ Some ns → IsStrictlyIncreasing ns →
@@ -137,7 +137,7 @@ falls universe most (suc k) least element object text ns b more e rising at low 
     let next : k + 1 ≡ suc k = omega arith in
     let past : least ≡ get_or b.numbers k 0 + 1 = b.last k next in
     let same : get_or ns k 0 ≡ get_or b.numbers k 0 =
-        front_number (universe - 1) (suc k) k (words_of text) b.numbers ns b.read e b.count (omega arith) (omega arith) in
+    front_number (universe - 1) (suc k) k (words_of text) b.numbers ns b.read e b.count (omega arith) (omega arith) in
     let up : get_or ns k 0 < get_or ns (k + 1) 0 = rising k (omega (arith, length-numbers_within (universe - 1) (words_of text) ns e)) in
     let here : get_or ns (k + 1) 0 ≡ get_or ns (suc k) 0 = ap (λ j. get_or ns j 0) next in
     omega arith
@@ -163,7 +163,7 @@ room universe most done least object text b not_full few =
 pub goes_on : (universe most done more least element : ℕ) (object new text word : List ℕ) → IsBegun universe most done least object text
     → done < length (words_of text) → word ≡ get_or (words_of text) done word →
     number_within (universe - 1) word ≡ Some element → (element < least → ⊥) → (length object ≡ 4 * most → ⊥) → new ≡ object ++ to_be_bytes w32 element
-        → more ≡ done + 1 → IsBegun universe most more (element + 1) new text
+    → more ≡ done + 1 → IsBegun universe most more (element + 1) new text
 goes_on universe most done more least element object new text word b inside is some high not_full e next =
     let long : length object ≡ 4 * length b.numbers = ap length b.bytes ∙ length-object_of_components b.numbers in
     let at_most = b.few in
@@ -172,7 +172,7 @@ goes_on universe most done more least element object new text word b inside is s
     let pushed : length (b.numbers ++ element ∷ []) ≡ length b.numbers + 1 = length_push b.numbers element in
     let words : take more (words_of text) ≡ take done (words_of text) ++ word ∷ [] =
     ap (λ k. take k (words_of text)) next ∙ take_more (words_of text) done [] inside
-        ∙ ap (λ (w : List ℕ). take done (words_of text) ++ w ∷ []) (sym (word_is text word done inside is)) in
+    ∙ ap (λ (w : List ℕ). take done (words_of text) ++ w ∷ []) (sym (word_is text word done inside is)) in
     record {
       numbers = b.numbers ++ element ∷ [];
       read = ap (numbers_within (universe - 1)) words ∙ numbers_push (universe - 1) (take done (words_of text)) word b.numbers element b.read some;
@@ -190,7 +190,7 @@ unfolding set_of_text
 ends universe most done least object text dash b end =
     let few = b.few in
     let read : numbers_in (universe - 1) text ≡ Some b.numbers = ap (numbers_within (universe - 1)) (sym (take_all done (words_of text) (omega arith)))
-        ∙ b.read in
+    ∙ b.read in
     let many : nat_le (length b.numbers) most ≡ true = grind (arith, nat_tests) in
     let test : (nat_le (length b.numbers) most && is_rising b.numbers) ≡ true = ap (λ t. t && is_rising b.numbers) many ∙ rising_test b.numbers b.rising in
     ap (λ (t : Bool). cond t (Some []) (option_and_then (set_with most) (numbers_in (universe - 1) text))) dash

@@ -45,27 +45,31 @@ not_true false is = refl
 pub among_all : (P : ℕ → Type 0) (n : ℕ) (xs : List ℕ) → AllByRecursion P xs → is_among n xs ≡ true → P n
 among_all P n [] all is = absurd (false≢true is)
 among_all P n (x ∷ xs) all is = elim (cases_eq x n) [
-      inl same ↦ subst P same all.0 |
-      inr other ↦ among_all P n xs all.1 (grind (arith, nat_tests, other, is))
-  ]
+  | inl same ↦ subst P same all.0
+  | inr other ↦ among_all P n xs all.1 (grind (arith, nat_tests, other, is))
+]
 
 all_range : (P : ℕ → Type 0) (from count : ℕ) → ((n : ℕ) → from ≤ n → n < from + count → P n) → AllByRecursion P (range_with_len from count)
 all_range P from zero each = tt
-all_range P from (suc count) each = (each from (omega arith) (omega arith),
-    all_range P (from + 1) count (λ n least below. each n (omega (arith, least)) (omega (arith, below))))
+all_range P from (suc count) each = (
+  each from (omega arith) (omega arith),
+  all_range P (from + 1) count (λ n least below. each n (omega (arith, least)) (omega (arith, below))),
+)
 
 distinct_range : (from count : ℕ) → IsDistinct (λ a b. a == b) (range_with_len from count)
 unfolding IsDistinct
 distinct_range from zero = tt
-distinct_range from (suc count) = (all_range (λ n. (from == n) ≡ false) (from + 1) count (λ n least below. grind (arith, nat_tests, least)),
-    distinct_range (from + 1) count)
+distinct_range from (suc count) = (
+  all_range (λ n. (from == n) ≡ false) (from + 1) count (λ n least below. grind (arith, nat_tests, least)),
+  distinct_range (from + 1) count,
+)
 
 range_has : (from count n : ℕ) → from ≤ n → n < from + count → is_among n (range_with_len from count) ≡ true
 range_has from zero n least below = absurd (omega (arith, least, below))
 range_has from (suc count) n least below = elim (cases_eq from n) [
-      inl same ↦ grind (arith, nat_tests, same) |
-      inr other ↦ grind (arith, nat_tests, range_has (from + 1) count n (omega (arith, least, other)) (omega (arith, below)))
-  ]
+  | inl same ↦ grind (arith, nat_tests, same)
+  | inr other ↦ grind (arith, nat_tests, range_has (from + 1) count n (omega (arith, least, other)) (omega (arith, below)))
+]
 
 -- ---- free pages
 
@@ -100,8 +104,8 @@ pub free_fits : (in_pool : ℕ → Bool) (from count : ℕ) (free : List ℕ) �
 free_fits in_pool from count free within are =
     subst (λ n. length free ≤ n) (length-range_with_len from count)
     (length-le_from_is_member nat_eq_equiv free (range_with_len from count) are.distinct (λ n is.
-      let inside = within n (among_all (λ m. IsTrue (in_pool m)) n free are.pool (turned n free ∙ is)) in
-      sym (turned n (range_with_len from count)) ∙ range_has from count n inside.0 inside.1))
+    let inside = within n (among_all (λ m. IsTrue (in_pool m)) n free are.pool (turned n free ∙ is)) in
+    sym (turned n (range_with_len from count)) ∙ range_has from count n inside.0 inside.1))
 
 -- and one fewer if another one is given back
 pub given_fits : (in_pool : ℕ → Bool) (from count : ℕ) (free : List ℕ) (n : ℕ) → ((m : ℕ) → IsTrue (in_pool m) → (from ≤ m) × (m < from + count))

@@ -46,20 +46,20 @@ evals-most m (suc (suc n)) few =
 pub visits-more : (dist : List ℕ → List ℕ → ℕ) (samples : List (List ℕ)) (n : ℕ) →
     choice_visits dist samples (n + 2)
     ≡ choice_visits dist samples (n + 1) ++ each_with (sample_at samples (next_place dist samples (chosen_places dist samples n)))
-        (unchosen_samples samples (chosen_places dist samples (n + 1)))
+    (unchosen_samples samples (chosen_places dist samples (n + 1)))
 visits-more dist samples n =
     let e : n + 2 ≡ suc (suc n) = omega arith in
     let f : suc n ≡ n + 1 = omega arith in
     ap (choice_visits dist samples) e
     ∙ ap (λ (k : ℕ). choice_visits dist samples k
-        ++ each_with (sample_at samples (next_place dist samples (chosen_places dist samples n))) (unchosen_samples samples (chosen_places dist samples k))) f
+    ++ each_with (sample_at samples (next_place dist samples (chosen_places dist samples n))) (unchosen_samples samples (chosen_places dist samples k))) f
 
 -- the place to choose, by the worths
 pub next-by-worths : (dist : List ℕ → List ℕ → ℕ) (samples : List (List ℕ)) (chosen worths : List ℕ) → length worths ≡ length samples
     → ((k : ℕ) → k < length samples → get_or worths k 0 ≡ worth dist samples chosen k) → first_place (greatest worths) worths ≡ next_place dist samples chosen
 next-by-worths dist samples chosen worths same each =
     let all : worths ≡ map (worth dist samples chosen) (range_with_len 0 (length samples)) =
-        fill_by_all (worth dist samples chosen) worths (length samples) 0 same each in
+    fill_by_all (worth dist samples chosen) worths (length samples) 0 same each in
     ap (λ (ws : List ℕ). first_place (greatest ws) ws) all
 
 -- what a place is worth once one more is chosen
@@ -81,7 +81,7 @@ or-true false = refl
 pub worth-taken : (dist : List ℕ → List ℕ → ℕ) (samples : List (List ℕ)) (chosen : List ℕ) (c k : ℕ) → c ≡ k → worth dist samples (chosen ++ c ∷ []) k ≡ 0
 worth-taken dist samples chosen c k is =
     let any = any-more chosen c k ∙ ap (λ (b : Bool). list_any (λ (other : ℕ). other == k) chosen || b) (same-number c k is)
-        ∙ or-true (list_any (λ (other : ℕ). other == k) chosen) in
+    ∙ or-true (list_any (λ (other : ℕ). other == k) chosen) in
     let sum = sum_by (λ (other : ℕ). dist (sample_at samples other) (sample_at samples k)) (chosen ++ c ∷ []) in
     ap (λ (b : Bool). if b then 0 else 1 + sum) any
 
@@ -93,7 +93,7 @@ pub worth-other : (dist : List ℕ → List ℕ → ℕ) (samples : List (List �
     → worth dist samples (chosen ++ c ∷ []) k ≡ updated_worth dist samples c k (worth dist samples chosen k)
 worth-other dist samples chosen c k differs =
     let any = any-more chosen c k ∙ ap (λ (b : Bool). list_any (λ (other : ℕ). other == k) chosen || b) (other-number c k differs)
-        ∙ or-false (list_any (λ (other : ℕ). other == k) chosen) in
+    ∙ or-false (list_any (λ (other : ℕ). other == k) chosen) in
     let f = λ (other : ℕ). dist (sample_at samples other) (sample_at samples k) in
     let one : sum_by f (c ∷ []) ≡ f c = omega (arith, sum_by-cons f c []) in
     let sum : sum_by f (chosen ++ c ∷ []) ≡ sum_by f chosen + f c = sum_by-append f chosen (c ∷ []) ∙ ap (λ (n : ℕ). sum_by f chosen + n) one in
@@ -124,7 +124,7 @@ count-first m = omega (arith, sum_by-replicate (λ (w : ℕ). cond (is_unchosen 
 count-taken : (worths : List ℕ) (c : ℕ) → c < length worths → 0 < get_or worths c 0 → count_by is_unchosen (set worths c 0) + 1 ≡ count_by is_unchosen worths
 count-taken worths c inside some =
     let all : count_by is_unchosen (set worths c 0) + cond (is_unchosen (get_or worths c 0)) 1 0 ≡ count_by is_unchosen worths + cond (is_unchosen 0) 1 0 =
-        sum_by-set (λ (w : ℕ). cond (is_unchosen w) 1 0) worths c 0 0 inside in
+    sum_by-set (λ (w : ℕ). cond (is_unchosen w) 1 0) worths c 0 0 inside in
     let is : is_unchosen (get_or worths c 0) ≡ true = grind (arith, nat_tests) in
     ap (λ (b : Bool). count_by is_unchosen (set worths c 0) + cond b 1 0) (sym is) ∙ all ∙ omega arith
 
@@ -198,7 +198,7 @@ distinct-more : (dist : List ℕ → List ℕ → ℕ) (samples : List (List ℕ
     → IsDistinct nat_eq (chosen ++ k ∷ [])
 distinct-more dist samples chosen k distinct some =
     let new = not-chosen-when (list_any (λ (other : ℕ). other == k) chosen)
-        (sum_by (λ (other : ℕ). dist (sample_at samples other) (sample_at samples k)) chosen) some in
+    (sum_by (λ (other : ℕ). dist (sample_at samples other) (sample_at samples k)) chosen) some in
     IsDistinct-push nat_eq_equiv chosen k distinct (any-flip k chosen ∙ new)
 
 -- from what is known of the worths and of the best of them
@@ -221,7 +221,7 @@ chosen-by dist samples before worths places front chosen room same each low open
     let inside : chosen < length samples = omega arith in
     let holds : get_or worths chosen 0 ≡ greatest worths = ap (λ (k : ℕ). get_or worths k 0) best ∙ first_place-holds worths in
     let front_worth : get_or worths chosen 0 ≡ worth dist samples front chosen = each chosen inside
-        ∙ ap (λ (cs : List ℕ). worth dist samples cs chosen) (sym front_is) in
+    ∙ ap (λ (cs : List ℕ). worth dist samples cs chosen) (sym front_is) in
     record {
       same_length = same;
       each = each;
@@ -240,9 +240,9 @@ pub Choosing-start : (dist : List ℕ → List ℕ → ℕ) (samples : List (Lis
     → Choosing dist samples 0 worths places chosen
 Choosing-start dist samples worths places chosen some ones best more =
     let each : (k : ℕ) → k < length samples → get_or worths k 0 ≡ 1 = λ (k : ℕ) (below : k < length samples). ap (λ (ws : List ℕ). get_or ws k 0) ones
-        ∙ get_or-replicate (length samples) k 1 0 below in
+    ∙ get_or-replicate (length samples) k 1 0 below in
     let worth_is : (k : ℕ) → worth dist samples (chosen_places dist samples 0) k ≡ 1 =
-        λ (k : ℕ). ap (λ (cs : List ℕ). worth dist samples cs k) (chosen-none dist samples) in
+    λ (k : ℕ). ap (λ (cs : List ℕ). worth dist samples cs k) (chosen-none dist samples) in
     let count : count_by is_unchosen worths ≡ length samples = ap (count_by is_unchosen) ones ∙ count-first (length samples) in
     chosen-by dist samples 0 worths places [] chosen some (ap length ones ∙ length-replicate (length samples) 1)
     (λ (k : ℕ) (below : k < length samples). each k below ∙ sym (worth_is k))
@@ -267,7 +267,7 @@ taken dist samples before worths places chosen kept k below = either (chosen == 
     either true is =
         let same : chosen ≡ k = grind (arith, nat_tests) in
         let none : get_or (set worths chosen 0) k 0 ≡ 0 = ap (λ (j : ℕ). get_or (set worths chosen 0) j 0) (sym same)
-            ∙ get_or-set_same worths chosen 0 0 (omega (arith, kept.same_length, kept.within)) in
+        ∙ get_or-set_same worths chosen 0 0 (omega (arith, kept.same_length, kept.within)) in
         updated_worth-none dist samples chosen k _ none ∙ sym (after ∙ worth-taken dist samples front chosen k same)
     either false is =
         let differs : chosen ≢ k = λ (e : chosen ≡ k). grind (arith, nat_tests) in
@@ -285,7 +285,7 @@ others dist samples before worths places chosen kept =
     ∙ ap is_unchosen (taken dist samples before worths places chosen kept k below)
     ∙ worth-open dist samples after k in
     ap (map (sample_at samples)) (filter-same (λ (k : ℕ). is_unchosen (get_or (set worths chosen 0) k 0))
-        (λ (k : ℕ). not (list_any (λ (other : ℕ). other == k) after)) (length samples) each)
+    (λ (k : ℕ). not (list_any (λ (other : ℕ). other == k) after)) (length samples) each)
 
 pub Choosing-more : (dist : List ℕ → List ℕ → ℕ) (samples : List (List ℕ)) (before : ℕ) (worths places : List ℕ) (chosen : ℕ) (after more : List ℕ) (next : ℕ) →
     Choosing dist samples before worths places chosen →

@@ -83,7 +83,7 @@ open-some old samples from i some =
     let passes : is_unchosen (get_or old i 0) ≡ true = grind (arith, nat_tests) in
     let places = filter-more-yes (λ (place : ℕ). is_unchosen (slice_index old place)) i passes in
     let objects = ap (map (sample_at samples)) places
-        ∙ map-append (sample_at samples) (filter (λ (place : ℕ). is_unchosen (slice_index old place)) (range_with_len 0 i)) (i ∷ []) in
+    ∙ map-append (sample_at samples) (filter (λ (place : ℕ). is_unchosen (slice_index old place)) (range_with_len 0 i)) (i ∷ []) in
     sym (ap (each_with from) objects ∙ map-append (λ (other : List ℕ). (from, other)) (unchosen_among_first old samples i) (sample_at samples i ∷ []))
 
 pub count-none : (old : List ℕ) (i : ℕ) → i < length old → get_or old i 0 ≡ 0 → count_by is_unchosen (take (i + 1) old) ≡ count_by is_unchosen (take i old)

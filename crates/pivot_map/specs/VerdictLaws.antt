@@ -25,7 +25,7 @@ pair-tells a b radius = tells-of (pair_meets a radius b) (pair_is_sure a radius 
 pub pair_verdict-symmetric : (a b : Object) (radius : ℕ) → pair_verdict a radius b ≡ pair_verdict b radius a
 pair_verdict-symmetric a b radius =
     ap (λ met. verdict met (pair_is_sure a radius b)) (pair_meets-symmetric a b radius)
-        ∙ ap (λ sure. verdict (pair_meets b radius a) sure) (pair_is_sure-symmetric a b radius)
+    ∙ ap (λ sure. verdict (pair_meets b radius a) sure) (pair_is_sure-symmetric a b radius)
 
 -- ---- what the verdict says of the distance
 

@@ -35,7 +35,7 @@ module _ (admitted : Object → Type 0) (dist : Distance) (pivots : List Object)
       → IsTestOf (pair_verdict p.0.vect radius p.1.vect) (of_cells pair_meets (pair_entries p)) (of_cells pair_is_sure (pair_entries p))
   told-by-cells p left right =
       subst (λ a. IsTestOf (pair_verdict p.0.vect radius p.1.vect) (pair_meets a radius (cells_of dist pivots p.1.object))
-          (pair_is_sure a radius (cells_of dist pivots p.1.object))) left.vector
+      (pair_is_sure a radius (cells_of dist pivots p.1.object))) left.vector
       (subst (λ b. IsTestOf (pair_verdict p.0.vect radius p.1.vect) (pair_meets p.0.vect radius b) (pair_is_sure p.0.vect radius b)) right.vector
       (pair-tells p.0.vect p.1.vect radius))
 
@@ -43,7 +43,7 @@ module _ (admitted : Object → Type 0) (dist : Distance) (pivots : List Object)
       → is_within (verdict_of_pair dist radius p) ≡ nat_le (dist p.0.object p.1.object) radius
   pair-within p left right =
       verdict-within (pair_verdict p.0.vect radius p.1.vect) (of_cells pair_meets (pair_entries p)) (of_cells pair_is_sure (pair_entries p))
-          (dist p.0.object p.1.object) radius
+      (dist p.0.object p.1.object) radius
       (told-by-cells p left right)
       (bounds.within_pair_meets p.0.object p.1.object radius left.object right.object)
       (bounds.pair_sure_within p.0.object p.1.object radius left.object right.object)
@@ -52,13 +52,13 @@ module _ (admitted : Object → Type 0) (dist : Distance) (pivots : List Object)
       → was_measured (verdict_of_pair dist radius p) ≡ pair_needs_distance dist pivots radius (pair_entries p)
   pair-measured p left right =
       verdict-measured (pair_verdict p.0.vect radius p.1.vect) (of_cells pair_meets (pair_entries p)) (of_cells pair_is_sure (pair_entries p))
-          (nat_le (dist p.0.object p.1.object) radius) (told-by-cells p left right)
+      (nat_le (dist p.0.object p.1.object) radius) (told-by-cells p left right)
 
   pair-sure : (p : Row × Row) → IsRow admitted dist pivots p.0 → IsRow admitted dist pivots p.1
       → was_sure (verdict_of_pair dist radius p) ≡ pair_is_included dist pivots radius (pair_entries p)
   pair-sure p left right =
       verdict-sure (pair_verdict p.0.vect radius p.1.vect) (of_cells pair_meets (pair_entries p)) (of_cells pair_is_sure (pair_entries p))
-          (nat_le (dist p.0.object p.1.object) radius) (told-by-cells p left right)
+      (nat_le (dist p.0.object p.1.object) radius) (told-by-cells p left right)
 
 -- ---- the end of a join
 
@@ -98,7 +98,7 @@ module _ (admitted : Object → Type 0) (dist : Distance) (pivots : List Object)
       ap (sorted_by goes_before)
       (finds.kept ∙ ap (λ kept. kept ++ map pair_ids (filter (λ p. is_within (verdict p)) pairs)) none
       ∙ kept_same {K = ℕ × ℕ} pair_entries (λ p. is_within (verdict p)) (λ p. nat_le (dist p.0.1 p.1.1) radius) pair_ids (λ p. (p.0.0, p.1.0)) (λ p. refl)
-          pairs pairs_within)
+      pairs pairs_within)
 
   join-evals : (start found : Found (ℕ × ℕ)) → start.evals ≡ 0 → PassesOver verdict pair_ids pairs start found
       → found.evals ≡ join_evals dist pivots entries radius
@@ -117,12 +117,12 @@ module _ (admitted : Object → Type 0) (dist : Distance) (pivots : List Object)
   unfolding join_answer
   of-parts ids evals sure a b c =
       ap (λ ids. record { pairs = ids; evals = evals; sure = sure }) a
-          ∙ ap₂ (λ evals sure. record { pairs = scan_join dist entries radius; evals = evals; sure = sure }) b c
+      ∙ ap₂ (λ evals sure. record { pairs = scan_join dist entries radius; evals = evals; sure = sure }) b c
 
   -- what was found, in order, and what was counted are the answer to the join
   pub join-answer : (start found : Found (ℕ × ℕ)) → start.kept.items ≡ [] → start.evals ≡ 0 → start.sure ≡ 0 → PassesOver verdict pair_ids tested start found
       → (ids : List (ℕ × ℕ)) → ids ≡ sorted_by goes_before found.kept.items
-          → record { pairs = ids; evals = found.evals; sure = found.sure } ≡ join_answer dist pivots looked_at radius
+      → record { pairs = ids; evals = found.evals; sure = found.sure } ≡ join_answer dist pivots looked_at radius
   join-answer start found none no_evals no_sure finds ids is =
       let all = finds-all start found finds in
       of-parts ids found.evals found.sure (is ∙ join-pairs start found none all) (join-evals start found no_evals all) (join-sure start found no_sure all)
@@ -134,7 +134,7 @@ module _ (admitted : Object → Type 0) (dist : Distance) (pivots : List Object)
   unfolding join_visits
   join-log count log count' log' measures =
       let all = MeasuresOpen-then verdict pair_objects tested rest count log count' log' count' log' measures
-          (MeasuresOpen-apart verdict pair_objects rest count' log' apart) in
+      (MeasuresOpen-apart verdict pair_objects rest count' log' apart) in
       let objects : Entry × Entry → MeasuredPair = λ p. (p.0.1, p.1.1) in
       let opened : Entry × Entry → Bool = pair_needs_distance dist pivots radius in
       let visits : map {B = MeasuredPair} pair_objects (filter (λ p. was_measured (verdict p)) pairs) ≡ map objects (filter opened (map pair_entries pairs)) =

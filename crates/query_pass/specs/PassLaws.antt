@@ -72,7 +72,7 @@ pub MeasuresOpen-then : {A : Type 0} (verdict : A → Verdict) (objects : A
     → MeasuredPair) (xs ys : List A) (count : ℕ) (log : Option (List MeasuredPair)) (count' : ℕ) (log' : Option (List MeasuredPair)) (count'' : ℕ)
     (log'' : Option (List MeasuredPair))
     → MeasuresOpen verdict objects xs count log count' log' → MeasuresOpen verdict objects ys count' log' count'' log''
-        → MeasuresOpen verdict objects (xs ++ ys) count log count'' log''
+    → MeasuresOpen verdict objects (xs ++ ys) count log count'' log''
 MeasuresOpen-then verdict objects xs ys count log count' log' count'' log'' first second = record {
   counted = let e = count-then (λ a. was_measured (verdict a)) xs ys in let f = first.counted in let h = second.counted in omega (arith, e, f, h);
   logged =
@@ -88,7 +88,7 @@ pub MeasuresOpen-one : {A : Type 0} (verdict : A → Verdict) (objects : A
     → MeasuredPair) (x : A) (v : Verdict) (m : MeasuredPair) (count : ℕ) (log : Option (List MeasuredPair)) (count' : ℕ) (log' : Option (List MeasuredPair))
     → v ≡ verdict x → m ≡ objects x
     → count' ≡ count + one_if (was_measured v) → LogExtends log log' (if was_measured v then m ∷ [] else [])
-        → MeasuresOpen verdict objects (x ∷ []) count log count' log'
+    → MeasuresOpen verdict objects (x ∷ []) count log count' log'
 MeasuresOpen-one verdict objects x v m count log count' log' is are counted logged = record {
   counted =
       let a = sum_by-cons (λ a. if was_measured (verdict a) then 1 else 0) x [] in
@@ -96,7 +96,7 @@ MeasuresOpen-one verdict objects x v m count log count' log' is are counted logg
   logged =
       LogExtends-same log log' _ _
       (ap (λ m. if was_measured v then m ∷ [] else []) are ∙ ap (λ v. if was_measured v then objects x ∷ [] else []) is
-          ∙ sym (one_logged objects x (was_measured (verdict x))))
+      ∙ sym (one_logged objects x (was_measured (verdict x))))
       logged;
 }
 
@@ -206,7 +206,7 @@ pub kept_same : {A B K : Type 0} (h : A → B) (test : A → Bool) (test' : B �
 kept_same h test test' name name' named [] same = refl
 kept_same h test test' name name' named (x ∷ xs) same =
     kept_if h name name' x (filter test xs) (filter test' (map h xs)) (test x) (named x)
-        (kept_same h test test' name name' named xs (All-tail (λ x. test x ≡ test' (h x)) x xs same))
+    (kept_same h test test' name name' named xs (All-tail (λ x. test x ≡ test' (h x)) x xs same))
     ∙ ap (λ b. map name' (if b then h x ∷ filter test' (map h xs) else filter test' (map h xs))) (All-head (λ x. test x ≡ test' (h x)) x xs same)
 
 pub count_same : {A B : Type 0} (h : A → B) (test : A → Bool) (test' : B → Bool) (xs : List A) → All (λ x. test x ≡ test' (h x)) xs

@@ -68,7 +68,7 @@ module _ (admitted : List ℕ → Type 0) (dist : List ℕ → List ℕ
   row-tells : (row : Row) → IsRow admitted dist pivots row → IsTestOf (query_verdict asked radius row.vect) (met (entry_of row)) (sure (entry_of row))
   row-tells row r =
       subst (λ a. IsTestOf (query_verdict asked radius row.vect) (meets a radius (cells_of dist pivots row.object))
-          (is_sure a radius (cells_of dist pivots row.object))) is
+      (is_sure a radius (cells_of dist pivots row.object))) is
       (subst (λ b. IsTestOf (query_verdict asked radius row.vect) (meets asked radius b) (is_sure asked radius b)) r.vector
       (query-tells asked row.vect radius))
 
@@ -90,7 +90,7 @@ module _ (admitted : List ℕ → Type 0) (dist : List ℕ → List ℕ
       ap (sorted_by nat_lt)
       (finds.kept ∙ ap (λ kept. kept ++ map (λ (row : Row). row.id) (filter (λ row. is_within (verdict row)) rows)) none
       ∙ kept_same entry_of (λ row. is_within (verdict row)) (λ row. nat_le (dist query row.1) radius) (λ (row : Row). row.id) (λ row. row.0) (λ row. refl)
-          rows rows_within)
+      rows rows_within)
 
   range-evals : (start found : Found ℕ) → start.evals ≡ 0 → PassesOver verdict (λ (row : Row). row.id) rows start found
       → length pivots + found.evals ≡ range_evals dist pivots (entries_of rows) query radius
@@ -113,7 +113,7 @@ module _ (admitted : List ℕ → Type 0) (dist : List ℕ → List ℕ
   range-answer start found none no_evals no_sure finds ids evals of_ids of_evals =
       ap (λ ids. record { ids = ids; evals = evals; sure = found.sure }) (of_ids ∙ range-ids start found none finds)
       ∙ ap₂ (λ evals sure. record { ids = scan_range dist (entries_of rows) query radius; evals = evals; sure = sure }) (of_evals
-          ∙ range-evals start found no_evals finds) (range-sure start found no_sure finds)
+      ∙ range-evals start found no_evals finds) (range-sure start found no_sure finds)
 
   pub range-log : (first : Option (List MeasuredPair)) (count : ℕ) (log : Option (List MeasuredPair)) (count' : ℕ) (log' : Option (List MeasuredPair))
       → LogExtends first log (each_with query pivots) → MeasuresOpen verdict (λ (row : Row). (query, row.object)) rows count log count' log'
@@ -121,9 +121,9 @@ module _ (admitted : List ℕ → Type 0) (dist : List ℕ → List ℕ
   unfolding range_visits
   range-log first count log count' log' asks measures =
       let tests : map {B = MeasuredPair} (λ (row : Row). (query, row.object)) (filter (λ row. was_measured (verdict row)) rows)
-          ≡ map (λ row. (query, row.1)) (filter (needs_distance dist pivots query radius) (entries_of rows)) =
+      ≡ map (λ row. (query, row.1)) (filter (needs_distance dist pivots query radius) (entries_of rows)) =
       kept_same {K = MeasuredPair} entry_of (λ row. was_measured (verdict row)) (needs_distance dist pivots query radius) (λ (row : Row). (query, row.object))
-          (λ row. (query, row.1)) (λ row. refl) rows rows_measured in
+      (λ row. (query, row.1)) (λ row. refl) rows rows_measured in
       let pair : List ℕ → MeasuredPair = λ other. (query, other) in
       let object : Entry → List ℕ = λ row. row.1 in
       let opened : List Entry = filter (needs_distance dist pivots query radius) (entries_of rows) in

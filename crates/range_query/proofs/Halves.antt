@@ -54,9 +54,9 @@ apart : (a : Entry) (rows left : List Entry) → IsPermutation (flat_map (above 
 apart a rows [] = IsPermutation-refl []
 apart a rows (c ∷ left) =
     subst (λ (ps : Pairs). IsPermutation (ps ++ flat_map (above (a ∷ rows)) left) (flat_map (above (a ∷ [])) (c ∷ left) ++ flat_map (above rows) (c ∷ left)))
-        (sym (above-cons a rows c))
+    (sym (above-cons a rows c))
     (quartered (above (a ∷ []) c) (above rows c) (flat_map (above (a ∷ [])) left) (flat_map (above rows) left) (flat_map (above (a ∷ rows)) left)
-        (apart a rows left))
+    (apart a rows left))
 
 -- no row rises to itself
 never : (n : ℕ) → nat_lt n n ≡ false

@@ -76,7 +76,7 @@ module _ (admitted : List ℕ → Type 0) (dist : List ℕ → List ℕ → ℕ)
   with_others P holds same row others is are =
       All-map P (ordered_pair same row) others
       (All-weaker (IsRow admitted dist pivots) (λ (x : Row). P (ordered_pair same row x))
-          (λ x r. pair_if P (same && nat_lt x.id row.id) row x (holds row x is r) (holds x row r is)) others are)
+      (λ x r. pair_if P (same && nat_lt x.id row.id) row x (holds row x is r) (holds x row r is)) others are)
 
   all_if : (b : Bool) (rows right : List Row) → All (IsRow admitted dist pivots) rows → All (IsRow admitted dist pivots) right
       → All (IsRow admitted dist pivots) (if b then rows else right)
@@ -115,7 +115,7 @@ module _ (admitted : List ℕ → Type 0) (dist : List ℕ → List ℕ → ℕ)
       let here : Is row = subst Is (sym is) (All-get_or Is left i row below (each_row admitted dist pivots left first)) in
       let rights = each_row admitted dist pivots right second in
       subst (AreAlike admitted (length row.vect)) (sym are)
-          (alike row (partners_of same right next) here (all_if same (drop next right) right (All-drop Is next right rights) rights))
+      (alike row (partners_of same right next) here (all_if same (drop next right) right (All-drop Is next right rights) rights))
 
 -- ---- the end of a join
 
@@ -155,7 +155,7 @@ module _ (admitted : List ℕ → Type 0) (dist : List ℕ → List ℕ
 
   pub join-answer : (start found : Found (ℕ × ℕ)) → start.kept.items ≡ [] → start.evals ≡ 0 → start.sure ≡ 0 → PassesOver verdict pair_ids pairs start found
       → (ids : List (ℕ × ℕ)) → ids ≡ sorted_by goes_before found.kept.items
-          → record { pairs = ids; evals = found.evals; sure = found.sure } ≡ join_answer dist pivots looked_at radius
+      → record { pairs = ids; evals = found.evals; sure = found.sure } ≡ join_answer dist pivots looked_at radius
   join-answer = laws.join-answer admitted dist pivots bounds radius pairs [] looked_at all_are all_moved none_apart
 
   pub join-log : (count : ℕ) (log : Option (List MeasuredPair)) (count' : ℕ) (log' : Option (List MeasuredPair))

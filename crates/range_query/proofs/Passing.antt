@@ -62,7 +62,7 @@ partners_if false left right next same = refl
 pub passed-more : (same : Bool) (left right : List Row) (i : ℕ) (row : Row) (others : List Row) (seen : List (Row × Row)) → (same ≡ true → left ≡ right)
     → i < length left → row ≡ get_or left i row → others ≡ partners_of same right (i + 1)
     → seen ++ passed same (drop i left) right ≡ passed same left right
-        → (seen ++ pairs_of same others row) ++ passed same (drop (i + 1) left) right ≡ passed same left right
+    → (seen ++ pairs_of same others row) ++ passed same (drop (i + 1) left) right ≡ passed same left right
 passed-more same left right i row others seen one below is are whole =
     let rest : drop i left ≡ row ∷ drop (i + 1) left = drop_more left i row below ∙ ap (λ x. x ∷ drop (i + 1) left) (sym is) in
     let with : (if same then drop (i + 1) left else right) ≡ others = partners_if same left right (i + 1) one ∙ sym are in

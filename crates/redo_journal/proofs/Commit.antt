@@ -35,7 +35,7 @@ numbers_back (n ∷ ns) rest small =
     let whole = append_assoc (number_bytes n) (flat_map number_bytes ns) rest in
     ap (λ xs. leading_number xs ∷ numbers_in (length ns) (drop 4 xs)) whole
     ∙ ap (λ m. m ∷ numbers_in (length ns) (drop 4 (number_bytes n ++ (flat_map number_bytes ns ++ rest))))
-        (number_back n (flat_map number_bytes ns ++ rest) small.0)
+    (number_back n (flat_map number_bytes ns ++ rest) small.0)
     ∙ ap (λ xs. n ∷ numbers_in (length ns) xs) (drop_at (number_bytes n) (flat_map number_bytes ns ++ rest) 4 (length-number_bytes n))
     ∙ ap (λ ks. n ∷ ks) (numbers_back ns rest small.1)
 
@@ -152,7 +152,7 @@ opened_home total es image c marks home stands closed written alone opened =
           redo_opened c n opened
           ∙ ap (λ l. overlay l (page c) n) still.journal_is
           ∙ ap (page_or (lookup (λ m. m == n) es)) (alone.pages_are n (home_positive total n is) (home_within total n stands.least is)
-              ∙ sym (redo_closed image n closed) ∙ stands.pages_are n is);
+          ∙ sym (redo_closed image n closed) ∙ stands.pages_are n is);
     }
 
 -- with the gate closed, for those without
@@ -160,7 +160,7 @@ pub still_home : (total : ℕ) (image c marks : List ℕ) (home : ℕ → List �
     → GateAlone total image c → has_open_gate c ≡ false → RecoversTo total c marks home
 still_home total image c marks home stands closed alone closed_too =
     closed_home total image c marks home stands closed alone.size closed_too alone.magic_is
-        (λ n is. alone.pages_are n (home_positive total n is) (home_within total n stands.least is))
+    (λ n is. alone.pages_are n (home_positive total n is) (home_within total n stands.least is))
 
 -- while the gate is written, the image stands for one or the other
 pub gate_opens : (total : ℕ) (es : List (ℕ × List ℕ)) (image c marks : List ℕ) (home : ℕ → List ℕ) → RecoversTo total image marks home
@@ -177,15 +177,15 @@ gate_opens total es image c marks home stands closed written torn =
 pub body_laid : (total : ℕ) (es : List (ℕ × List ℕ)) (header image : List ℕ) → 85 ≤ total → total < 4294967296 → length image ≡ 512 * total → 0 < length es
     → length es ≤ 80
     → length (keys_of es) ≡ length es → AreHomes total 0 (keys_of es) → ArePages es → header ≡ header_page (keys_of es)
-        → length (header ++ joined_images es) ≡ 512 * (1 + length es)
+    → length (header ++ joined_images es) ≡ 512 * (1 + length es)
     → IsWritten total es (overwritten_at image 2048 (header ++ joined_images es))
-        × (page (overwritten_at image 2048 (header ++ joined_images es)) 4 ≡ header_page (keys_of es))
+    × (page (overwritten_at image 2048 (header ++ joined_images es)) 4 ≡ header_page (keys_of es))
 body_laid total es header image least small size some few many homes whole is long =
     let keys_small = homes_small total 0 (keys_of es) least small homes in
     let rest = drop (2048 + length (header ++ joined_images es)) image in
     let behind : drop (512 * 4) (overwritten_at image 2048 (header ++ joined_images es)) ≡ header_page (keys_of es) ++ (joined_images es ++ rest) =
     drop_laid image (header ++ joined_images es) 2048 (omega (arith, least, size)) ∙ append_assoc header (joined_images es) rest
-        ∙ ap (λ h. h ++ (joined_images es ++ rest)) is in
+    ∙ ap (λ h. h ++ (joined_images es ++ rest)) is in
     let back = journal_back (overwritten_at image 2048 (header ++ joined_images es)) rest es few many keys_small whole behind in (
       record {
         header = subst (IsHeader total) (sym back.0) (header_good total (keys_of es) (omega (arith, some, many)) (omega (arith, few, many)) keys_small homes);

@@ -16,7 +16,7 @@ pub written : (size n : ℕ) (first numbers : List ℕ) → length first ≡ 4 �
 written size n first numbers four many fits =
     let whole = first ++ drop 4 (replicate size 0) in
     let long : length whole ≡ size = length-append first (drop 4 (replicate size 0))
-        ∙ omega (arith, four, fits, length-drop {A = ℕ} 4 (replicate size 0), length-replicate {A = ℕ} size 0) in
+    ∙ omega (arith, four, fits, length-drop {A = ℕ} 4 (replicate size 0), length-replicate {A = ℕ} size 0) in
     let zeros : drop 4 (replicate size 0) ≡ replicate (size - 4) 0 = drop-replicate 4 size 0 in
     let behind : drop 8 whole ≡ replicate (size - 8) 0 =
     sym (drop-drop 4 4 whole) ∙ ap (drop 4) (drop_at first (drop 4 (replicate size 0)) 4 four) ∙ ap (drop 4) zeros ∙ drop-replicate 4 (size - 4) 0
@@ -28,7 +28,7 @@ written size n first numbers four many fits =
     let after : drop (8 + n) whole ≡ replicate (size - 8 - n) 0 = sym (drop-drop n 8 whole) ∙ ap (drop n) behind ∙ drop-replicate n (size - 8) 0 in
     sym (take-append-drop (8 + n) (put_mid 8 n whole numbers))
     ∙ ap (λ xs. xs ++ drop (8 + n) (put_mid 8 n whole numbers)) (take-put_mid 8 n whole numbers (8 + n) (omega (arith, many)) (omega (arith, long, fits))
-        ∙ ap (λ xs. xs ++ numbers) front)
+    ∙ ap (λ xs. xs ++ numbers) front)
     ∙ ap (λ xs. first ++ replicate 4 0 ++ numbers ++ xs) (drop-put_mid 8 n whole numbers (8 + n) (omega arith) (omega (arith, long, fits)) many ∙ after)
     ∙ append_assoc (first ++ replicate 4 0) numbers (replicate (size - 8 - n) 0)
     ∙ append_assoc first (replicate 4 0) (numbers ++ replicate (size - 8 - n) 0)
@@ -103,7 +103,7 @@ reads_on count place items header more is =
     let next : count - place ≡ suc (count - (place + 1)) = omega (arith, more) in
     let behind : 8 + 4 * place + 4 ≡ 8 + 4 * (place + 1) = omega arith in
     ap (λ xs. items ++ leading_number (drop (8 + 4 * place) header) ∷ numbers_in (count - (place + 1)) xs) (ap (λ n. drop n header) (sym behind)
-        ∙ sym (drop-drop 4 (8 + 4 * place) header))
+    ∙ sym (drop-drop 4 (8 + 4 * place) header))
     ∙ ap (λ n. items ++ numbers_in n (drop (8 + 4 * place) header)) (sym next)
     ∙ is
 
@@ -112,7 +112,7 @@ reads_on count place items header more is =
 abbrev pub HasRead : ℕ → List ℕ → ℕ → List ℕ → ℕ → ℕ → Type 0
 HasRead total header count items last place =
     (length items ≡ place) × (items ++ numbers_in (count - place) (drop (8 + 4 * place) header) ≡ page_numbers header) × AreHomes total 0 items
-        × (last ≡ last_of 0 items)
+    × (last ≡ last_of 0 items)
 
 module _ (total count place last n : ℕ) (items header : List ℕ) (so_far : HasRead total header count items last place)
     (more : place < count) (is : n ≡ leading_number (drop (8 + 4 * place) header)) where

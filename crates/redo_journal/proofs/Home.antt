@@ -35,7 +35,7 @@ pub over_same : (image : List ℕ) (i n : ℕ) (ns : List ℕ) (f g : ℕ → Li
 over_same image i n [] f g same = same refl
 over_same image i n (m ∷ ns) f g same =
     over_step (m == n) (page image i) (lookup (λ k. k == n) (entries_from image (suc i) ns)) (is_listed n ns) (f n) (g n) same
-        (over_same image (suc i) n ns f g)
+    (over_same image (suc i) n ns f g)
 
 -- images of the same pages
 pub images_same : (old new : List ℕ) (i : ℕ) (ns : List ℕ) → ((k : ℕ) → i ≤ k → k < i + length ns → page new k ≡ page old k)
@@ -82,7 +82,7 @@ survives total image other marks home stands opened differs =
     let kept : (k : ℕ) → 4 ≤ k → k < 85 → page other k ≡ page image k =
     λ k low high. differs.pages_are k (omega (arith, high, stands.least)) (not_among total 0 k (page_numbers (page image 4)) header.homes (inr (low, high))) in
     let mark : page other 0 ≡ page image 0 =
-        differs.pages_are 0 (omega (arith, stands.least)) (not_among total 0 0 (page_numbers (page image 4)) header.homes (inl refl)) in
+    differs.pages_are 0 (omega (arith, stands.least)) (not_among total 0 0 (page_numbers (page image 4)) header.homes (inl refl)) in
     let journal : journal_entries other ≡ journal_entries image = journal_same image other header.count.1 kept in
     let gates : has_open_gate other ≡ has_open_gate image = ap (λ g. g == 1) (gate_same image other mark) in record {
       least = stands.least;

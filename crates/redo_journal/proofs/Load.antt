@@ -17,7 +17,7 @@ images_read image i (n ∷ ns) =
     ap (λ k. drop 512 (take k (drop (512 * i) image))) more ∙ drop-take 512 (512 * length ns) (drop (512 * i) image)
     ∙ ap (take (512 * length ns)) (drop-drop 512 (512 * i) image ∙ ap (λ k. drop k image) on) in
     ap (λ p. (n, p) ∷ page_entries 512 ns (drop 512 (take (512 * length (n ∷ ns)) (drop (512 * i) image))))
-        (page_front image i (512 * length (n ∷ ns)) (omega (arith, more)))
+    (page_front image i (512 * length (n ∷ ns)) (omega (arith, more)))
     ∙ ap (λ xs. (n, page image i) ∷ page_entries 512 ns xs) behind
     ∙ ap (λ es. (n, page image i) ∷ es) (images_read image (suc i) ns)
 

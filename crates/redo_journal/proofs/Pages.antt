@@ -16,7 +16,7 @@ part_same old new from count within longer same =
     ext_get_or 0 (take count (drop from new)) (take count (drop from old)) (also ∙ sym long) (λ k lt.
     let below : k < count = omega (arith, lt, also) in
     get_or-take count (drop from new) k 0 below ∙ get_or-drop from new k 0 ∙ same k below ∙ sym (get_or-drop from old k 0)
-        ∙ sym (get_or-take count (drop from old) k 0 below))
+    ∙ sym (get_or-take count (drop from old) k 0 below))
 
 module _ (at count : ℕ) (old new : List ℕ) (torn : IsTornWrite at count old new) where
   -- a write within the size keeps it

@@ -45,21 +45,21 @@ front place bytes =
 -- the page at a place
 entry_at : (place : ℕ) (ns bytes : List ℕ) → place < length ns
     → page_entries 512 ns bytes ≡ take place (page_entries 512 ns bytes)
-        ++ (get_or ns place 0, take 512 (drop (512 * place) bytes)) ∷ drop (suc place) (page_entries 512 ns bytes)
+    ++ (get_or ns place 0, take 512 (drop (512 * place) bytes)) ∷ drop (suc place) (page_entries 512 ns bytes)
 entry_at zero (n ∷ ns) bytes lt = refl
 entry_at (suc place) (n ∷ ns) bytes lt =
     ap (λ es. (n, take 512 bytes) ∷ es) (entry_at place ns (drop 512 bytes) (omega (arith, lt))
     ∙ ap (λ xs. take place (page_entries 512 ns (drop 512 bytes))
-        ++ (get_or ns place 0, take 512 xs) ∷ drop (suc place) (page_entries 512 ns (drop 512 bytes))) (further place bytes))
+    ++ (get_or ns place 0, take 512 xs) ∷ drop (suc place) (page_entries 512 ns (drop 512 bytes))) (further place bytes))
 entry_at place [] bytes lt = absurd (omega (arith, lt))
 
 pub entry-page_entries : (place : ℕ) (ns bytes : List ℕ) → place < length ns
     → page_entries 512 ns bytes ≡ take place (page_entries 512 ns bytes)
-        ++ (get_or ns place 0, take 512 (drop (512 * place) bytes)) ∷ drop (place + 1) (page_entries 512 ns bytes)
+    ++ (get_or ns place 0, take 512 (drop (512 * place) bytes)) ∷ drop (place + 1) (page_entries 512 ns bytes)
 entry-page_entries place ns bytes lt =
     let on : suc place ≡ place + 1 = omega arith in
     entry_at place ns bytes lt ∙ ap (λ k. take place (page_entries 512 ns bytes)
-        ++ (get_or ns place 0, take 512 (drop (512 * place) bytes)) ∷ drop k (page_entries 512 ns bytes)) on
+    ++ (get_or ns place 0, take 512 (drop (512 * place) bytes)) ∷ drop k (page_entries 512 ns bytes)) on
 
 not_equal : (m n : ℕ) → (m ≡ n → ⊥) → (m == n) ≡ false
 not_equal m n apart = grind (arith, nat_tests)
@@ -127,11 +127,11 @@ replaced (suc place) total last n (m ∷ ns) bytes page homes lt is whole fits =
     let on : 512 * suc place + 512 ≡ 512 + (512 * place + 512) = omega arith in
     ap (page_entries 512 (m ∷ ns)) (split_on place bytes (page ++ drop (512 * suc place + 512) bytes))
     ∙ paired_on m ns (take 512 bytes) (take (512 * place) (drop 512 bytes) ++ (page ++ drop (512 * suc place + 512) bytes))
-        (length-take-le 512 bytes (omega (arith, fits)))
+    (length-take-le 512 bytes (omega (arith, fits)))
     ∙ ap (λ xs. (m, take 512 bytes) ∷ page_entries 512 ns (take (512 * place) (drop 512 bytes) ++ (page ++ xs))) (ap (λ k. drop k bytes) on
-        ∙ sym (drop-drop (512 * place + 512) 512 bytes))
+    ∙ sym (drop-drop (512 * place + 512) 512 bytes))
     ∙ ap (λ es. (m, take 512 bytes) ∷ es)
-        (replaced place total m n ns (drop 512 bytes) page homes.2 (omega (arith, lt)) is whole (omega (arith, fits, length-drop 512 bytes)))
+    (replaced place total m n ns (drop 512 bytes) page homes.2 (omega (arith, lt)) is whole (omega (arith, fits, length-drop 512 bytes)))
     ∙ sym (goes_behind n m page (take 512 bytes) (page_entries 512 ns (drop 512 bytes)) (later place ns m total n homes.2 (omega (arith, lt)) is))
 replaced place total last n [] bytes page homes lt is whole fits = absurd (omega (arith, lt))
 
@@ -143,11 +143,11 @@ pub joins : (place n : ℕ) (ns bytes page : List ℕ) → place ≤ length ns �
 joins zero n [] bytes page le below above whole fits = paired_on n [] page bytes whole
 joins zero n (m ∷ ns) bytes page le below above whole fits =
     paired_on n (m ∷ ns) page bytes whole
-        ∙ sym (goes_first n m page (take 512 bytes) (page_entries 512 ns (drop 512 bytes)) (above 0 (omega arith) (omega arith)))
+    ∙ sym (goes_first n m page (take 512 bytes) (page_entries 512 ns (drop 512 bytes)) (above 0 (omega arith) (omega arith)))
 joins (suc place) n (m ∷ ns) bytes page le below above whole fits =
     ap (page_entries 512 (m ∷ insert ns place n)) (split_on place bytes (page ++ drop (512 * suc place) bytes))
     ∙ paired_on m (insert ns place n) (take 512 bytes) (take (512 * place) (drop 512 bytes) ++ (page ++ drop (512 * suc place) bytes))
-        (length-take-le 512 bytes (omega (arith, fits)))
+    (length-take-le 512 bytes (omega (arith, fits)))
     ∙ ap (λ xs. (m, take 512 bytes) ∷ page_entries 512 (insert ns place n) (take (512 * place) (drop 512 bytes) ++ (page ++ xs))) (sym (further place bytes))
     ∙ ap (λ es. (m, take 512 bytes) ∷ es) (joins place n ns (drop 512 bytes) page (omega (arith, le)) (λ k lt. below (suc k) (omega (arith, lt)))
     (λ k ge lt. above (suc k) (omega (arith, ge)) (omega (arith, lt))) whole (omega (arith, fits, length-drop 512 bytes)))
@@ -198,9 +198,12 @@ pub homes_insert : (total last place n : ℕ) (ns : List ℕ) → AreHomes total
     → ((k : ℕ) → place ≤ k → k < length ns → n < get_or ns k 0) → AreHomes total last (insert ns place n)
 homes_insert total last zero n [] homes home rise le below above = (home, rise, tt)
 homes_insert total last zero n (m ∷ ns) homes home rise le below above = (home, rise, (homes.0, above 0 (omega arith) (omega arith), homes.2))
-homes_insert total last (suc place) n (m ∷ ns) homes home rise le below above =
-    (homes.0, homes.1, homes_insert total m place n ns homes.2 home (below 0 (omega arith)) (omega (arith, le)) (λ k lt. below (suc k) (omega (arith, lt)))
-        (λ k ge lt. above (suc k) (omega (arith, ge)) (omega (arith, lt))))
+homes_insert total last (suc place) n (m ∷ ns) homes home rise le below above = (
+  homes.0,
+  homes.1,
+  homes_insert total m place n ns homes.2 home (below 0 (omega arith)) (omega (arith, le)) (λ k lt. below (suc k) (omega (arith, lt)))
+      (λ k ge lt. above (suc k) (omega (arith, ge)) (omega (arith, lt))),
+)
 homes_insert total last (suc place) n [] homes home rise le below above = absurd (omega (arith, le))
 
 -- after the header: the bytes once a page is replaced at a place, or put there
@@ -220,7 +223,7 @@ module _ (total capacity n place : ℕ) (numbers body page : List ℕ) (staged :
 
   pub stage_replaces : IsPlaceOf numbers n place
       → Stages (Ok tt) (page_entries 512 numbers (drop 512 body)) n page
-          (page_entries 512 numbers (drop 512 (take (512 * (place + 1)) body ++ (page ++ drop (512 * (place + 1) + 512) body))))
+      (page_entries 512 numbers (drop 512 (take (512 * (place + 1)) body ++ (page ++ drop (512 * (place + 1) + 512) body))))
   stage_replaces at =
       let on : 512 * (place + 1) + 512 ≡ 512 + (512 * place + 512) = omega arith in (
         ap (page_entries 512 numbers) (split_behind place (512 * (place + 1) + 512) body page (omega (arith, at.0, staged.long))
@@ -231,7 +234,7 @@ module _ (total capacity n place : ℕ) (numbers body page : List ℕ) (staged :
 
   pub stage_joins : IsBetween numbers n place → length numbers < 80
       → Stages (Ok tt) (page_entries 512 numbers (drop 512 body)) n page
-          (page_entries 512 (insert numbers place n) (drop 512 (take (512 * (place + 1)) body ++ (page ++ drop (512 * (place + 1)) body))))
+      (page_entries 512 (insert numbers place n) (drop 512 (take (512 * (place + 1)) body ++ (page ++ drop (512 * (place + 1)) body))))
   stage_joins between room =
       let on : 512 * (place + 1) ≡ 512 + 512 * place = omega arith in (
         ap (page_entries 512 (insert numbers place n)) (split_behind place (512 * (place + 1)) body page (omega (arith, between.0, staged.long))
@@ -251,16 +254,24 @@ module _ (total capacity n place : ℕ) (numbers body page : List ℕ) (staged :
       → IsStaged total (insert numbers place n) (take (512 * (place + 1)) body ++ (page ++ drop (512 * (place + 1)) body)) later
   joins_staged later home between room kept =
       let front : length (take (512 * (place + 1)) body) ≡ 512 * (place + 1) =
-          length-take-le (512 * (place + 1)) body (omega (arith, between.0, staged.long)) in
+      length-take-le (512 * (place + 1)) body (omega (arith, between.0, staged.long)) in
       let more : length (insert numbers place n) ≡ length numbers + 1 =
       length-append (take place numbers) (n ∷ drop place numbers)
-          ∙ omega (arith, length-take-le place numbers between.0, length-drop place numbers, between.0) in record {
+      ∙ omega (arith, length-take-le place numbers between.0, length-drop place numbers, between.0) in record {
         small = staged.small;
         homes = homes_insert total 0 place n numbers staged.homes home (positive total n home) between.0 between.1 between.2;
         few = omega (arith, more, room);
         long = length-append (take (512 * (place + 1)) body) (page ++ drop (512 * (place + 1)) body)
-            ∙ omega (arith, front, whole, more, between.0, staged.long, length-append page (drop (512 * (place + 1)) body),
-                length-drop (512 * (place + 1)) body);
+            ∙ omega (
+              arith,
+              front,
+              whole,
+              more,
+              between.0,
+              staged.long,
+              length-append page (drop (512 * (place + 1)) body),
+              length-drop (512 * (place + 1)) body,
+            );
         room = omega (arith, kept, staged.room);
       }
 

@@ -21,7 +21,7 @@ module _ {D : Type 0} (moment : D → ℕ) (crash_states_since : D → ℕ → L
       → CrashesLeaveOnly moment crash_states_since start written (DiffersWithin total (keys_of es) (image start))
       → ((c : List ℕ) → crash_states written c → DiffersWithin total (keys_of es) (image start) c)
       → Elapses (moment written) (moment synced) (crash_states_since written) (crash_states_since synced) (crash_states synced)
-          → Includes (crash_states written) (crash_states synced)
+      → Includes (crash_states written) (crash_states synced)
       → CrashesLeaveOnly moment crash_states_since start synced (λ c. RecoversTo total c marks home)
   settled_so_far start written synced homes holds stands run crash time within =
       let as_home : (c : List ℕ) → DiffersWithin total (keys_of es) (image start) c → RecoversTo total c marks home =
@@ -35,17 +35,17 @@ module _ {D : Type 0} (moment : D → ℕ) (crash_states_since : D → ℕ → L
       → CrashesLeaveOnly moment crash_states_since start synced (λ c. RecoversTo total c marks home)
       → AreInPlace es (image synced) → DiffersWithin total (keys_of es) (image start) (image synced)
       → CrashesLeaveOnly moment crash_states_since synced now (IsTornWrite 16 1 (image synced))
-          → CrashesLeaveOnly moment crash_states_since start now (λ c. RecoversTo total c marks home)
+      → CrashesLeaveOnly moment crash_states_since start now (λ c. RecoversTo total c marks home)
   settled start synced now homes holds stands so_far placed differs run =
       joined moment crash_states_since start synced now (λ c. RecoversTo total c marks home) so_far
       (weaker moment crash_states_since synced now (IsTornWrite 16 1 (image synced)) (λ c. RecoversTo total c marks home)
       (λ c torn. gate_closes total es (image start) (image synced) c marks home homes holds differs placed
-          (gate_torn total (image synced) c stands.least (differs.size ∙ stands.size) torn) stands) run)
+      (gate_torn total (image synced) c stands.least (differs.size ∙ stands.size) torn) stands) run)
 
   -- the body went into the journal
   pub committed_so_far : (start written : D) → RecoversTo total (image start) marks home → has_open_gate (image start) ≡ false → length es ≤ 80
       → CrashesLeaveOnly moment crash_states_since start written (IsTornWrite 2048 (512 * (1 + length es)) (image start))
-          → CrashesLeaveOnly moment crash_states_since start written (IsBeforeOrAfter total es marks home)
+      → CrashesLeaveOnly moment crash_states_since start written (IsBeforeOrAfter total es marks home)
   committed_so_far start written stands closed few run =
       weaker moment crash_states_since start written (IsTornWrite 2048 (512 * (1 + length es)) (image start)) (IsBeforeOrAfter total es marks home)
       (λ c torn. inl (body_torn total (length es) (image start) c marks home stands closed few torn).0) run
@@ -54,11 +54,11 @@ module _ {D : Type 0} (moment : D → ℕ) (crash_states_since : D → ℕ → L
   pub committed : (start written now : D) → CrashesLeaveOnly moment crash_states_since start written (IsBeforeOrAfter total es marks home)
       → RecoversTo total (image written) marks home → has_open_gate (image written) ≡ false
       → IsWritten total es (image written) → CrashesLeaveOnly moment crash_states_since written now (IsTornWrite 16 1 (image written))
-          → CrashesLeaveOnly moment crash_states_since start now (IsBeforeOrAfter total es marks home)
+      → CrashesLeaveOnly moment crash_states_since start now (IsBeforeOrAfter total es marks home)
   committed start written now so_far stands closed is_written run =
       joined moment crash_states_since start written now (IsBeforeOrAfter total es marks home) so_far
       (weaker moment crash_states_since written now (IsTornWrite 16 1 (image written)) (IsBeforeOrAfter total es marks home)
-          (λ c torn. gate_opens total es (image written) c marks home stands closed is_written torn) run)
+      (λ c torn. gate_opens total es (image written) c marks home stands closed is_written torn) run)
 
 length-keys : (es : List (ℕ × List ℕ)) → length (keys_of es) ≡ length es
 length-keys [] = refl
@@ -75,16 +75,16 @@ pub record HasBody (total : ℕ) (es : List (ℕ × List ℕ)) (old new : List �
 pub has_body : (staged : StagedPages) (header body old new : List ℕ) → IsChange staged → 0 < length staged.pages → 85 ≤ staged.total
     → length old ≡ 512 * staged.total
     → header ≡ header_page (keys_of staged.pages) → body ≡ header ++ joined_images staged.pages → length body ≡ 512 * (1 + length staged.pages)
-        → new ≡ overwritten_at old 2048 body
+    → new ≡ overwritten_at old 2048 body
     → HasBody staged.total staged.pages old new
 has_body staged header body old new sound some least size header_is body_is long is =
     let laid_all = body_laid staged.total staged.pages header old least sound.small size some sound.few (length-keys staged.pages)
-        sound.homes sound.whole header_is (sym (ap length body_is) ∙ long) in
+    sound.homes sound.whole header_is (sym (ap length body_is) ∙ long) in
     let same : overwritten_at old 2048 (header ++ joined_images staged.pages) ≡ new = ap (overwritten_at old 2048) (sym body_is) ∙ sym is in
     let torn : IsTornWrite 2048 (512 * (1 + length staged.pages)) old new =
     subst (IsTornWrite 2048 (512 * (1 + length staged.pages)) old) (sym is)
-        (subst (λ (m : ℕ). IsTornWrite 2048 m old (overwritten_at old 2048 body)) long (torn-overwritten_at old 2048 body (omega (arith, least, size)))) in
-        record {
+    (subst (λ (m : ℕ). IsTornWrite 2048 m old (overwritten_at old 2048 body)) long (torn-overwritten_at old 2048 body (omega (arith, least, size)))) in
+    record {
       is_written = subst (IsWritten staged.total staged.pages) same laid_all.0;
       header_is = subst (λ (i : List ℕ). page i 4 ≡ header_page (keys_of staged.pages)) same laid_all.1;
       size = torn_size 2048 (512 * (1 + length staged.pages)) old new torn (omega (arith, least, size, sound.few));
@@ -108,7 +108,7 @@ commits total es old written new least size body is =
 -- a run, and then another
 pub recovered : {D : Type 0} (moment : D → ℕ) (crash_states_since : D → ℕ → List ℕ → Type 0) (start found now : D) (P Q : List ℕ → Type 0)
     → CrashesLeaveOnly moment crash_states_since start found P → CrashesLeaveOnly moment crash_states_since found now Q
-        → CrashesLeaveOnly moment crash_states_since start now (λ c. P c ⊎ Q c)
+    → CrashesLeaveOnly moment crash_states_since start now (λ c. P c ⊎ Q c)
 recovered moment crash_states_since start found now P Q before after =
     joined moment crash_states_since start found now (λ c. P c ⊎ Q c)
     (weaker moment crash_states_since start found P (λ c. P c ⊎ Q c) (λ c has. inl has) before)
@@ -118,7 +118,7 @@ recovered moment crash_states_since start found now P Q before after =
 pub stood : {D : Type 0} (moment : D → ℕ) (crash_states_since : D → ℕ → List ℕ → Type 0) (start now : D) (total : ℕ) (image : List ℕ) (crash_states : List ℕ
     → Type 0) (marks : List ℕ) (home : ℕ → List ℕ)
     → IsDurable image crash_states → RecoversTo total image marks home
-        → CrashesLeaveOnly moment crash_states_since start now (λ c. crash_states c ⊎ RecoversTo total c marks home)
+    → CrashesLeaveOnly moment crash_states_since start now (λ c. crash_states c ⊎ RecoversTo total c marks home)
     → CrashesLeaveOnly moment crash_states_since start now (λ c. RecoversTo total c marks home)
 stood moment crash_states_since start now total image crash_states marks home only stands run =
     weaker moment crash_states_since start now (λ c. crash_states c ⊎ RecoversTo total c marks home) (λ c. RecoversTo total c marks home)

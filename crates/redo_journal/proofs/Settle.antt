@@ -69,9 +69,11 @@ before_below total last n p (e ∷ before) after homes = (first_below total e.0 
 placed_kept : (n : ℕ) (es : List (ℕ × List ℕ)) (old new : List ℕ) → AreBelow n es → 512 * n + 512 ≤ length old → IsTornWrite (512 * n) 512 old new
     → AreInPlace es old → AreInPlace es new
 placed_kept n [] old new below within torn placed = tt
-placed_kept n (e ∷ es) old new below within torn placed =
-    (torn_page (512 * n) 512 old new torn e.0 (omega (arith, below.0, within)) (inl (omega (arith, below.0)))
-        ∙ placed.0, placed_kept n es old new below.1 within torn placed.1)
+placed_kept n (e ∷ es) old new below within torn placed = (
+  torn_page (512 * n) 512 old new torn e.0 (omega (arith, below.0, within)) (inl (omega (arith, below.0)))
+      ∙ placed.0,
+  placed_kept n es old new below.1 within torn placed.1,
+)
 
 placed_push : (es : List (ℕ × List ℕ)) (n : ℕ) (p image : List ℕ) → AreInPlace es image → page image n ≡ p → AreInPlace (es ++ (n, p) ∷ []) image
 placed_push [] n p image placed is = (is, tt)
@@ -82,7 +84,7 @@ pub placed_on : (total n : ℕ) (p : List ℕ) (es before after : List (ℕ × L
     → 512 * n + 512 ≤ length old → IsTornWrite (512 * n) 512 old new → page new n ≡ p → AreInPlace before old → AreInPlace (before ++ (n, p) ∷ []) new
 placed_on total n p es before after old new is homes within torn there placed =
     placed_push before n p new (placed_kept n before old new (before_below total 0 n p before after (subst (λ l. AreHomes total 0 (keys_of l)) is homes))
-        within torn placed) there
+    within torn placed) there
 
 -- if all pages are home, each page is as the recovery would have it
 over_placed : (b : Bool) (found : Option (List ℕ)) (p f here : List ℕ) (among : Bool) → (b ≡ true → here ≡ p) → ((b || among) ≡ false → here ≡ f)
@@ -183,7 +185,7 @@ closed_stands total old new marks home redone stands = record {
   clean = λ opened. absurd (false≢true (sym redone.closed ∙ opened));
   marks_are =
       magic_same old new (omega (arith, stands.size, stands.least)) (omega (arith, redone.size))
-          (λ k lt. redone.mark_is k (omega (arith, lt)) (λ is. omega (arith, lt, is)))
+      (λ k lt. redone.mark_is k (omega (arith, lt)) (λ is. omega (arith, lt, is)))
       ∙ stands.marks_are;
   pages_are = λ n is. redo_closed new n redone.closed ∙ redone.pages_are n (home_positive total n is) (home_within total n stands.least is)
       ∙ stands.pages_are n is;
@@ -193,7 +195,7 @@ pub redone_home : (total : ℕ) (old new marks : List ℕ) (home : ℕ → List 
     → RecoversTo total new marks home
 redone_home total old new marks home redone stands =
     closed_stands total old new marks home
-        (record { size = redone.size; closed = redone_closed total old new redone; mark_is = redone.mark_is; pages_are = redone.pages_are }) stands
+    (record { size = redone.size; closed = redone_closed total old new redone; mark_is = redone.mark_is; pages_are = redone.pages_are }) stands
 
 -- the same of an answer
 pub recovers_home : (total : ℕ) (result : Result Unit RecoverError) (old new marks : List ℕ) (home : ℕ → List ℕ) → Recovers total result old new
@@ -213,7 +215,7 @@ open_alike : (total : ℕ) (now c marks : List ℕ) (home : ℕ → List ℕ) �
 open_alike total now c marks home alone opened opened_too stands =
     let header = stands.clean opened in
     let kept : (k : ℕ) → 4 ≤ k → k < 85 → page c k ≡ page now k = λ k low high. alone.pages_are k (omega (arith, low)) (omega (arith, high, stands.least)) in
-        record {
+    record {
       least = stands.least;
       size = alone.size ∙ stands.size;
       clean = λ _. subst (IsHeader total) (sym (kept 4 (omega arith) (omega arith))) header;
@@ -236,7 +238,7 @@ gate_closes total es start now c marks home homes holds differs placed alone sta
         stands
     either true opened =
         open_alike total now c marks home alone (still_open total es start now stands.least homes holds differs) opened
-            (differs_home total es start now stands.least homes holds differs marks home stands)
+        (differs_home total es start now stands.least homes holds differs marks home stands)
 
 -- the gate was written: nothing else changed
 pub gate_laid : (total value : ℕ) (old new : List ℕ) → 85 ≤ total → length old ≡ 512 * total → new ≡ overwritten_at old 16 (value ∷ [])
@@ -256,13 +258,13 @@ take_one place es e is le =
 pub goes_home : (total n place : ℕ) (p start old new : List ℕ) (es : List (ℕ × List ℕ)) → es ≡ take place es ++ (n, p) ∷ drop (place + 1) es → place < length es
     → AreHomes total 0 (keys_of es) → n < total → length start ≡ 512 * total → length p ≡ 512 → new ≡ overwritten_at old (512 * n) p
     → AreInPlace (take place es) old → DiffersWithin total (keys_of es) start old → AreInPlace (take (place + 1) es) new
-        × DiffersWithin total (keys_of es) start new
+    × DiffersWithin total (keys_of es) start new
 goes_home total n place p start old new es is more homes within long whole laid_is placed differs =
     let size : length old ≡ 512 * total = differs.size ∙ long in
     let torn : IsTornWrite (512 * n) 512 old new =
     subst (IsTornWrite (512 * n) 512 old) (sym laid_is)
-        (subst (λ (m : ℕ). IsTornWrite (512 * n) m old (overwritten_at old (512 * n) p)) whole
-        (torn-overwritten_at old (512 * n) p (omega (arith, size, within)))) in
+    (subst (λ (m : ℕ). IsTornWrite (512 * n) m old (overwritten_at old (512 * n) p)) whole
+    (torn-overwritten_at old (512 * n) p (omega (arith, size, within)))) in
     let there : page new n ≡ p = ap (λ i. page i n) laid_is ∙ laid_page old p n (omega (arith, size, within)) whole in (
       subst (λ l. AreInPlace l new) (sym (take_one place es (n, p) is (omega (arith, more))))
           (placed_on total n p es (take place es) (drop (place + 1) es) old new is homes (omega (arith, size, within)) torn there placed),

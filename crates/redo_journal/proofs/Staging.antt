@@ -25,7 +25,7 @@ module _ (n m : ℕ) (page first : List ℕ) (es : List (ℕ × List ℕ)) (P : 
   by_order lower same higher =
       ⊎_elim (λ lt. at Less (nat_cmp_is n m Less lt) (lower lt))
       (λ ge. ⊎_elim (λ lt. at Greater (nat_cmp_is n m Greater lt) (higher lt))
-          (λ le. at Equal (nat_cmp_is n m Equal (omega (arith, ge, le))) (same (omega (arith, ge, le)))) (cases_lt m n)) (cases_lt n m)
+      (λ le. at Equal (nat_cmp_is n m Equal (omega (arith, ge, le))) (same (omega (arith, ge, le)))) (cases_lt m n)) (cases_lt n m)
     where
       at : (o : Ordering) → o ≡ nat_cmp n m → P (match_ordering o ((n, page) ∷ (m, first) ∷ es) ((m, page) ∷ es) ((m, first) ∷ with_page es n page))
           → P (with_page ((m, first) ∷ es) n page)
@@ -97,4 +97,4 @@ pub found_at : (total n m place : ℕ) (page : List ℕ) (es : List (ℕ × List
 found_at total n m place page es homes is same =
     subst (λ (k : ℕ). lookup (λ j. j == k) es ≡ Some page) same
     (ap (λ l. lookup (λ j. j == m) l) is
-        ∙ (found_among total 0 m page (take place es) (drop (place + 1) es) (subst (λ l. AreHomes total 0 (keys_of l)) is homes)).0)
+    ∙ (found_among total 0 m page (take place es) (drop (place + 1) es) (subst (λ l. AreHomes total 0 (keys_of l)) is homes)).0)

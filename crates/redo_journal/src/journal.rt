@@ -103,7 +103,7 @@ impl<'a, D: Disk> Journal<'a, D> {
             → Recovers (total_of self.old) result (D.image (disk_of self.old)) (D.image (disk_of self.new)) }
         ensures home { IsTrue (D.is_known (disk_of self.old)) → (marks : List ℕ) (home : ℕ → List ℕ)
             → RecoversTo (total_of self.old) (D.image (disk_of self.old)) marks home
-                → OnOk result (RecoversTo (total_of self.old) (D.image (disk_of self.new)) marks home) }
+            → OnOk result (RecoversTo (total_of self.old) (D.image (disk_of self.new)) marks home) }
         ensures closed { IsTrue (D.is_known (disk_of self.old)) → OnOk result (has_open_gate (D.image (disk_of self.new)) ≡ false) }
         ensures any_start { IsTrue (D.is_known (disk_of self.old)) → IsTrue (D.knows_crashes (disk_of self.old))
             → (marks : List ℕ) (home : ℕ → List ℕ) → RecoversTo (total_of self.old) (D.image (disk_of self.old)) marks home
@@ -195,7 +195,7 @@ impl<'a, D: Disk> Journal<'a, D> {
             → IsDurable (D.image (disk_of self.old)) (D.crash_states (disk_of self.old)) → (marks : List ℕ) (home : ℕ → List ℕ)
             → RecoversTo (total_of self.old) (D.image (disk_of self.old)) marks home → has_open_gate (D.image (disk_of self.old)) ≡ false
             → CrashesLeaveOnly D.moment D.crash_states_since (disk_of self.old) (disk_of self.new)
-                (IsBeforeOrAfter (total_of self.old) (staged_of self.old) marks home) }
+            (IsBeforeOrAfter (total_of self.old) (staged_of self.old) marks home) }
         ensures kept { IsTrue (D.is_known (disk_of self.old)) → IsTrue (D.knows_crashes (disk_of self.old))
             → OnOk result (IsDurable (D.image (disk_of self.new)) (D.crash_states (disk_of self.new))) }
         ensures staged { (staged_of self.new ≡ staged_of self.old) × (total_of self.new ≡ total_of self.old) }
@@ -220,7 +220,7 @@ impl<'a, D: Disk> Journal<'a, D> {
         ensures home { IsTrue (D.is_known (disk_of self.old)) → HoldsChange (staged_of self.old) (D.image (disk_of self.old))
             → (marks : List ℕ) (home : ℕ → List ℕ)
             → RecoversTo (total_of self.old) (D.image (disk_of self.old)) marks home
-                → OnOk result (RecoversTo (total_of self.old) (D.image (disk_of self.new)) marks home) }
+            → OnOk result (RecoversTo (total_of self.old) (D.image (disk_of self.new)) marks home) }
         ensures closed { IsTrue (D.is_known (disk_of self.old)) → OnOk result (gate (D.image (disk_of self.new)) ≡ CLOSED_GATE) }
         ensures any_moment { IsTrue (D.is_known (disk_of self.old)) → IsTrue (D.knows_crashes (disk_of self.old))
             → IsDurable (D.image (disk_of self.old)) (D.crash_states (disk_of self.old)) → HoldsChange (staged_of self.old) (D.image (disk_of self.old))

@@ -45,7 +45,7 @@ fn write_home<D: Disk>(disk: &mut D, n: u32, page: &[u8]) -> Result<(), DiskFaul
     // A crash state that differed from another image at most within some pages, this one among them, still does.
     ensures crash { (total : ℕ) (numbers start : List ℕ) → length start ≡ PAGE_SIZE * total → n < total → IsTrue (is_listed n numbers)
         → ((c : List ℕ) → D.crash_states disk.old c → DiffersWithin total numbers start c) → (c : List ℕ) → D.crash_states disk.new c
-            → DiffersWithin total numbers start c }
+        → DiffersWithin total numbers start c }
     ensures time { Elapses (D.moment disk.old) (D.moment disk.new) (D.crash_states_since disk.old) (D.crash_states_since disk.new) (D.crash_states disk.new) }
     ensures disk { DiskServes D.is_known D.knows_crashes D.size_of D.faults result disk.old disk.new }
     ensures reads { IsTrue (D.is_known disk.old) → D.reads disk.new ≡ D.reads disk.old }

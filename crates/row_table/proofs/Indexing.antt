@@ -165,7 +165,7 @@ module _ (ids new : List ℕ) (f g : ℕ → Option ℕ) (id place : ℕ) (index
   not_last : (k : ℕ) → k + 1 < length ids → slice_index ids k ≢ slice_index ids (length ids - 1)
   not_last k below same =
       let one = same_place k (length ids - 1) (sym (indexed.here k (omega (arith, below))) ∙ ap f same
-          ∙ indexed.here (length ids - 1) (omega (arith, below))) in
+      ∙ indexed.here (length ids - 1) (omega (arith, below))) in
       omega (arith, below, one)
 
   kept : (k : ℕ) → k < length ids → k ≢ place → g (slice_index ids k) ≡ Some k
@@ -234,7 +234,7 @@ module _ (ids new : List ℕ) (f g : ℕ → Option ℕ) (id place : ℕ) (index
           let under = old.0 in
           let apart = not_place other k was in
           let short : k + 1 < length ids = ⊎_elim (λ less. less) (λ from. absurd (another (sym old.1 ∙ ap (slice_index ids) (end k from under) ∙ sym last_is)))
-              (cases_lt (k + 1) (length ids)) in
+          (cases_lt (k + 1) (length ids)) in
           (omega (arith, short, count), moves.others k apart short ∙ old.1)
         where
           end : (k : ℕ) → length ids ≤ k + 1 → k < length ids → k ≡ length ids - 1
@@ -347,7 +347,7 @@ module _ {rows new : List Row} {place : ℕ} {row : Row} {id : ℕ} {f g : ℕ �
   moved_ids : Moves (ids_of rows) (ids_of new) place
   moved_ids = subst (λ xs. Moves (ids_of rows) (ids_of xs) place) (sym goes.items)
       (moves_of rows (swap_remove rows place row) place within (count_after rows place row within) (moved_after rows place row within)
-          (others_after rows place row within))
+      (others_after rows place row within))
 
   left : row_with id new ≡ None → IsPermutation (rows_without id rows) new
   left none =

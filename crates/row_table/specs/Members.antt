@@ -79,7 +79,7 @@ module _ (tables : List (List Row)) (c : ℕ) (row : Row) (rows : List Row) (bel
       ap entries_of is ∙ map-append entry_of (rows_at tables c) (row ∷ []) ∙ ap (λ es. es ++ entry_of row ∷ []) (sym (entries_at tables c)) in
       let absent : object_with_id (table_at es c) row.id ≡ None =
       ap (λ rows. object_with_id rows row.id) (entries_at tables c) ∙ object_with_id-map entry_of (rows_at tables c) row.id
-          ∙ ap (option_map (λ (row : Row). row.object)) none in
+      ∙ ap (option_map (λ (row : Row). row.object)) none in
       ap members_of (map-set entries_of tables c rows ∙ ap (slice_set es c) grown)
       ∙ members_of-added es c row.id row.object (have_ids tables distinct) (let many = length-map tables entries_of in omega (arith, many, below)) absent
 
@@ -102,21 +102,21 @@ AreRows-push admitted dist pivots rows row are room none valid cells = record {
 
 -- a table without the row of an id
 module _ (tables : List (List Row)) (c id : ℕ) (left : List Row) (below : c < length tables) (moved : IsPermutation (rows_without id (rows_at tables c)) left)
-    where
-  pub members_of-rows_without : All HasDistinctIds tables
-      → members_of (map entries_of (slice_set tables c left)) ≡ without_object (members_of (map entries_of tables)) c id
-  members_of-rows_without distinct =
-      let es = map entries_of tables in
-      ap members_of (map-set entries_of tables c left)
-      ∙ members_of-removed es c id (entries_of left) (have_ids tables distinct) (let many = length-map tables entries_of in omega (arith, many, below))
-      (subst (λ (rows : List Entry). IsPermutation (entries_without rows id) (entries_of left)) (sym (entries_at tables c))
-          (entries_without-moved entry_of (rows_at tables c) left id moved))
+  where
+    pub members_of-rows_without : All HasDistinctIds tables
+        → members_of (map entries_of (slice_set tables c left)) ≡ without_object (members_of (map entries_of tables)) c id
+    members_of-rows_without distinct =
+        let es = map entries_of tables in
+        ap members_of (map-set entries_of tables c left)
+        ∙ members_of-removed es c id (entries_of left) (have_ids tables distinct) (let many = length-map tables entries_of in omega (arith, many, below))
+        (subst (λ (rows : List Entry). IsPermutation (entries_without rows id) (entries_of left)) (sym (entries_at tables c))
+        (entries_without-moved entry_of (rows_at tables c) left id moved))
 
-  pub sum-rows_without : sum_by length (slice_set tables c left) ≤ sum_by length tables
-  sum-rows_without =
-      let all = sum_by-set length tables c left [] below in
-      let many = length_permutation (rows_without id (rows_at tables c)) left moved in
-      let less = rows_without-length (rows_at tables c) id in omega (arith, all, many, less)
+    pub sum-rows_without : sum_by length (slice_set tables c left) ≤ sum_by length tables
+    sum-rows_without =
+        let all = sum_by-set length tables c left [] below in
+        let many = length_permutation (rows_without id (rows_at tables c)) left moved in
+        let less = rows_without-length (rows_at tables c) id in omega (arith, all, many, less)
 
 pub AreRows-rows_without : (admitted : List ℕ → Type 0) (dist : List ℕ → List ℕ → ℕ) (pivots : List (List ℕ)) (rows left : List Row) (id : ℕ)
     → IsPermutation (rows_without id rows) left → AreRows admitted dist pivots rows → AreRows admitted dist pivots left

@@ -89,7 +89,7 @@ row_with-permutation rows others distinct same id = from (row_with id others) re
     back row there =
         ap (λ n. row_with n rows) (sym (row_with-id others id row there))
         ∙ row_with-Contains rows distinct row
-            (Contains-permutation others rows row (IsPermutation-sym rows others same) (Contains-row_with others id row there))
+        (Contains-permutation others rows row (IsPermutation-sym rows others same) (Contains-row_with others id row there))
 
     -- and if there is none among them, there is none among the rows
     nowhere : row_with id others ≡ None → (k : ℕ) (d : Row) → k < length rows → has_id id (get_or rows k d) ≡ false

@@ -27,7 +27,7 @@ module _ {A : Type 0} (f : A → Entry) where
   entries_without-map [] id = refl
   entries_without-map (x ∷ xs) id =
       ap (λ rest. cond (not ((f x).0 == id)) (f x ∷ rest) rest) (entries_without-map xs id)
-          ∙ kept_if (not ((f x).0 == id)) x (filter (λ x. not ((f x).0 == id)) xs)
+      ∙ kept_if (not ((f x).0 == id)) x (filter (λ x. not ((f x).0 == id)) xs)
 
   each : (P : Entry → Type 0) (xs : List A) → ((k : ℕ) (d : A) → k < length xs → P (f (get_or xs k d))) → (k : ℕ) (d : Entry) → k < length (map f xs)
       → P (get_or (map f xs) k d)
@@ -44,7 +44,7 @@ module _ {A : Type 0} (f : A → Entry) where
       each (λ row. (f x).0 ≢ row.0) xs (λ k e inside. h 0 (suc k) e (omega arith) (omega (arith, inside))) j d (omega (arith, below))
   HasDistinctEntryIds-map (x ∷ xs) h (suc i) (suc j) d less below =
       HasDistinctEntryIds-map xs (λ k l e first inside. h (suc k) (suc l) e (omega (arith, first)) (omega (arith, inside))) i j d (omega (arith, less))
-          (omega (arith, below))
+      (omega (arith, below))
 
   -- what is so of each item's row is so of the rows
   pub All-rows : (P : Entry → Type 0) (xs : List A) → All (λ x. P (f x)) xs → All P (map f xs)

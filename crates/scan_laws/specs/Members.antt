@@ -133,7 +133,7 @@ unfolding members_of
 entries_in-members_of tables c =
     subst (IsPermutation (entries_in (sorted_by key_before (keyed_tables 0 tables)) c)) (rows_from c 0 c tables (omega arith))
     (IsPermutation-entries_in c (sorted_by key_before (keyed_tables 0 tables)) (keyed_tables 0 tables)
-        (sorted_by-permutation key_before (keyed_tables 0 tables)))
+    (sorted_by-permutation key_before (keyed_tables 0 tables)))
 
 -- ---- counts
 
@@ -153,7 +153,7 @@ length-entries_in c (e ∷ es) =
 pub member_count-members_of : (tables : List (List Entry)) (c : ℕ) → member_count (members_of tables) c ≡ length (table_at tables c)
 member_count-members_of tables c =
     sym (length-entries_in c (members_of tables))
-        ∙ sym (length_permutation (entries_in (members_of tables) c) (table_at tables c) (entries_in-members_of tables c))
+    ∙ sym (length_permutation (entries_in (members_of tables) c) (table_at tables c) (entries_in-members_of tables c))
 
 length-keyed_tables : (c : ℕ) (tables : List (List Entry)) → length (keyed_tables c tables) ≡ sum_by length tables
 length-keyed_tables c [] = refl
@@ -168,7 +168,7 @@ pub length-members_of : (tables : List (List Entry)) → length (members_of tabl
 unfolding members_of
 length-members_of tables =
     sym (length_permutation (sorted_by key_before (keyed_tables 0 tables)) (keyed_tables 0 tables) (sorted_by-permutation key_before (keyed_tables 0 tables)))
-        ∙ length-keyed_tables 0 tables
+    ∙ length-keyed_tables 0 tables
 
 -- without rows there are no members
 pub members_of-none : members_of ([] ∷ [] ∷ [] ∷ [] ∷ []) ≡ []
@@ -239,13 +239,13 @@ longer_from c d k [] row old new e below h = absurd (omega arith)
 longer_from c d zero (rows ∷ tables) row old new e below h =
     let same : d ≡ c = omega arith in
     let moved = IsPermutation-append_left (keyed_tables (suc d) tables) (keyed_entries d old) (keyed_entries d (row ∷ new))
-        (IsPermutation-map (entry d) old (row ∷ new) h) in
+    (IsPermutation-map (entry d) old (row ∷ new) h) in
     subst (λ n. IsPermutation (keyed_entries d old ++ keyed_tables (suc d) tables) (entry n row ∷ (keyed_entries d new ++ keyed_tables (suc d) tables)))
-        same moved
+    same moved
 longer_from c d (suc k) (rows ∷ tables) row old new e below h =
     IsPermutation-trans _ _ _
     (IsPermutation-append_right (keyed_entries d rows) (keyed_tables (suc d) (with_table tables k old))
-        (entry c row ∷ keyed_tables (suc d) (with_table tables k new))
+    (entry c row ∷ keyed_tables (suc d) (with_table tables k new))
     (longer_from c (suc d) k tables row old new (omega arith) (omega arith) h))
     (IsPermutation-middle (keyed_entries d rows) (entry c row) (keyed_tables (suc d) (with_table tables k new)))
 
@@ -269,11 +269,11 @@ members_of-more tables c id object rows ids below none h =
     let absent : lookup (at c id) all ≡ None = found_in c id tables ∙ none in
     let grown : IsPermutation (keyed_tables 0 (with_table tables c rows)) (((c, id), object) ∷ all) =
     subst (λ ts. IsPermutation (keyed_tables 0 (with_table tables c rows)) (((c, id), object) ∷ keyed_tables 0 ts)) (with_table-itself tables c)
-        (longer c tables (id, object) rows (table_at tables c) below h) in
+    (longer c tables (id, object) rows (table_at tables c) below h) in
     let distinct : IsDistinct (eq_by_cmp key_cmp) (keys_of (((c, id), object) ∷ all)) =
     IsDistinct-cons (eq_by_cmp key_cmp) (c, id) (keys_of all) (absent-lookup (at c id) all absent) (distinct_from 0 tables ids) in
     sym (sorted_by-same_keys key_order exact_keys (((c, id), object) ∷ all) (keyed_tables 0 (with_table tables c rows))
-        (IsPermutation-sym (keyed_tables 0 (with_table tables c rows)) (((c, id), object) ∷ all) grown) distinct)
+    (IsPermutation-sym (keyed_tables 0 (with_table tables c rows)) (((c, id), object) ∷ all) grown) distinct)
     ∙ sorted_by-inserted key_order (c, id) object all absent
 
 -- the same if the row is last
@@ -323,7 +323,7 @@ split_if : (b : Bool) (row : Entry) (rows others : List Entry) (id : ℕ) (objec
 split_if true row rows others id object rest is here whole more =
     let object_is : row.1 ≡ object = cc in
     let one : (row ∷ rows) ≡ ((id, object) ∷ others) = ap (λ r. r ∷ rows) (sym (row_is row id object (the_id row.0 id is) object_is))
-        ∙ ap (λ l. (id, object) ∷ l) (sym (whole is)) in
+    ∙ ap (λ l. (id, object) ∷ l) (sym (whole is)) in
     subst (IsPermutation (row ∷ rows)) one (IsPermutation-refl (row ∷ rows))
 split_if false row rows others id object rest is here whole more =
     IsPermutation-trans _ _ _ (IsPermutation-cons row rows ((id, object) ∷ others) (more here)) (IsPermutation-middle (row ∷ []) (id, object) others)
@@ -344,28 +344,28 @@ moved_from d zero (first ∷ tables) rows h =
     IsPermutation-append_left (keyed_tables (suc d) tables) (keyed_entries d first) (keyed_entries d rows) (IsPermutation-map (entry d) first rows h)
 moved_from d (suc k) (first ∷ tables) rows h =
     IsPermutation-append_right (keyed_entries d first) (keyed_tables (suc d) tables) (keyed_tables (suc d) (with_table tables k rows))
-        (moved_from (suc d) k tables rows h)
+    (moved_from (suc d) k tables rows h)
 
 removed_by : (tables : List (List Entry)) (c id : ℕ) (rows : List Entry) (found : Option (List ℕ)) → AllByRecursion HasDistinctEntryIds tables
     → c < length tables → HasDistinctEntryIds (table_at tables c) → object_with_id (table_at tables c) id ≡ found
     → IsPermutation (entries_without (table_at tables c) id) rows
-        → sorted_by key_before (keyed_tables 0 (with_table tables c rows)) ≡ without_object (sorted_by key_before (keyed_tables 0 tables)) c id
+    → sorted_by key_before (keyed_tables 0 (with_table tables c rows)) ≡ without_object (sorted_by key_before (keyed_tables 0 tables)) c id
 removed_by tables c id rows None all below ids is h =
     let none : lookup (at c id) (keyed_tables 0 tables) ≡ None = found_in c id tables ∙ is in
     let moved : IsPermutation (table_at tables c) rows = subst (λ l. IsPermutation l rows) (entries_without-absent (table_at tables c) id is) h in
     sym (sorted_by-same_keys key_order exact_keys (keyed_tables 0 tables) (keyed_tables 0 (with_table tables c rows)) (moved_from 0 c tables rows moved)
-        (distinct_from 0 tables all))
+    (distinct_from 0 tables all))
     ∙ sym (remove_entry-absent (at c id) (sorted_by key_before (keyed_tables 0 tables)) (lookup-sorted_by key_order (c, id) (keyed_tables 0 tables) ∙ none))
 removed_by tables c id rows (Some object) all below ids is h =
     let split : IsPermutation (table_at tables c) ((id, object) ∷ rows) =
     IsPermutation-trans (table_at tables c) ((id, object) ∷ entries_without (table_at tables c) id) ((id, object) ∷ rows)
-        (entries_without-split (table_at tables c) id object ids is) (IsPermutation-cons (id, object) (entries_without (table_at tables c) id) rows h) in
+    (entries_without-split (table_at tables c) id object ids is) (IsPermutation-cons (id, object) (entries_without (table_at tables c) id) rows h) in
     let rest : Members = keyed_tables 0 (with_table tables c rows) in
     let moved : IsPermutation (keyed_tables 0 tables) (((c, id), object) ∷ rest) =
     subst (λ ts. IsPermutation (keyed_tables 0 ts) (((c, id), object) ∷ rest)) (with_table-itself tables c)
-        (longer c tables (id, object) (table_at tables c) rows below split) in
+    (longer c tables (id, object) (table_at tables c) rows below split) in
     let distinct : IsDistinct (eq_by_cmp key_cmp) (keys_of (((c, id), object) ∷ rest)) =
-        distinct-moved key_order (keyed_tables 0 tables) (((c, id), object) ∷ rest) moved (distinct_from 0 tables all) in
+    distinct-moved key_order (keyed_tables 0 tables) (((c, id), object) ∷ rest) moved (distinct_from 0 tables all) in
     let none : lookup (at c id) rest ≡ None = lookup-absent (at c id) rest (IsDistinct-head (eq_by_cmp key_cmp) (c, id) (keys_of rest) distinct) in
     let same = sorted_by-same_keys key_order exact_keys (keyed_tables 0 tables) (((c, id), object) ∷ rest) moved (distinct_from 0 tables all) in
     sym (sorted_by-removed key_order (c, id) object rest none) ∙ ap (λ es. without_object es c id) (sym same)

@@ -22,14 +22,17 @@ module _ (dist : Distance) (pivots : List Object) (rows rows' : List Entry) (mov
   unfolding range_answer
   range_answer-moved radius =
       let within = sorted_by-same nat_lt nat_order _ _
-          (IsPermutation-map (λ row. row.0) _ _ (permutation-filter (λ row. nat_le (dist query row.1) radius) rows rows' moved)) in
+      (IsPermutation-map (λ row. row.0) _ _ (permutation-filter (λ row. nat_le (dist query row.1) radius) rows rows' moved)) in
       let open_ones : range_evals dist pivots rows query radius ≡ range_evals dist pivots rows' query radius =
       ap (λ n. length pivots + n) (count-moved (needs_distance dist pivots query radius) rows rows' moved) in
       let settled : range_sure dist pivots rows query radius ≡ range_sure dist pivots rows' query radius =
-          count-moved (is_included dist pivots query radius) rows rows' moved in
+      count-moved (is_included dist pivots query radius) rows rows' moved in
       ap (λ ids. record { ids = ids; evals = range_evals dist pivots rows query radius; sure = range_sure dist pivots rows query radius }) within
-      ∙ ap₂ (λ evals sure. record { ids = sorted_by nat_lt (map (λ row. row.0) (filter (λ row. nat_le (dist query row.1) radius) rows')); evals = evals;
-          sure = sure }) open_ones settled
+      ∙ ap₂ (λ evals sure. record {
+        ids = sorted_by nat_lt (map (λ row. row.0) (filter (λ row. nat_le (dist query row.1) radius) rows'));
+        evals = evals;
+        sure = sure;
+      }) open_ones settled
 
   -- the ranks of all rows in order
   ranks-moved : sorted_by goes_before (ranks_of dist rows query) ≡ sorted_by goes_before (ranks_of dist rows' query)
@@ -65,11 +68,14 @@ module _ (dist : Distance) (pivots : List Object) (pairs pairs' : List (Entry ×
   unfolding join_answer
   join_answer-moved =
       let within = sorted_by-same goes_before pair_order _ _
-          (IsPermutation-map (λ p. (p.0.0, p.1.0)) _ _ (permutation-filter (λ p. nat_le (dist p.0.1 p.1.1) radius) pairs pairs' moved)) in
+      (IsPermutation-map (λ p. (p.0.0, p.1.0)) _ _ (permutation-filter (λ p. nat_le (dist p.0.1 p.1.1) radius) pairs pairs' moved)) in
       let open_ones : join_evals dist pivots pairs radius ≡ join_evals dist pivots pairs' radius =
-          count-moved (pair_needs_distance dist pivots radius) pairs pairs' moved in
+      count-moved (pair_needs_distance dist pivots radius) pairs pairs' moved in
       let settled : join_sure dist pivots pairs radius ≡ join_sure dist pivots pairs' radius =
-          count-moved (pair_is_included dist pivots radius) pairs pairs' moved in
+      count-moved (pair_is_included dist pivots radius) pairs pairs' moved in
       ap (λ found. record { pairs = found; evals = join_evals dist pivots pairs radius; sure = join_sure dist pivots pairs radius }) within
-      ∙ ap₂ (λ evals sure. record { pairs = sorted_by goes_before (map (λ p. (p.0.0, p.1.0)) (filter (λ p. nat_le (dist p.0.1 p.1.1) radius) pairs'));
-          evals = evals; sure = sure }) open_ones settled
+      ∙ ap₂ (λ evals sure. record {
+        pairs = sorted_by goes_before (map (λ p. (p.0.0, p.1.0)) (filter (λ p. nat_le (dist p.0.1 p.1.1) radius) pairs'));
+        evals = evals;
+        sure = sure;
+      }) open_ones settled

@@ -124,7 +124,7 @@ module _ {K X : Type 0} {R : K → K → Ordering} (o : IsTotalOrder R) where
         → lookup (is_at (R q)) (if b then e ∷ more else x ∷ e ∷ es) ≡ lookup (is_at (R q)) (x ∷ e ∷ es)
     looked_if true x e es more is h =
         ap (λ rest. cond (is_eq (R q e.0)) (Some e.1) rest) h
-            ∙ either_first (is_eq (R q e.0)) (is_eq (R q x.0)) e.1 x.1 (lookup (is_at (R q)) es) (not_both o q e.0 x.0 is)
+        ∙ either_first (is_eq (R q e.0)) (is_eq (R q x.0)) e.1 x.1 (lookup (is_at (R q)) es) (not_both o q e.0 x.0 is)
     looked_if false x e es more is h = refl
 
     lookup-with_inserted : (x : K × X) (es : List (K × X)) → lookup (is_at (R q)) (with_inserted before x es) ≡ lookup (is_at (R q)) (x ∷ es)
@@ -149,7 +149,7 @@ module _ {K X : Type 0} {R : K → K → Ordering} (o : IsTotalOrder R) where
   other_keys xs apart = λ i j d less inside same.
       let long : length (keys_of xs) ≡ length xs = length-map xs (λ (e : K × X). e.0) in
       let differ : eq_by_cmp R (get_or (keys_of xs) i d.0) (get_or (keys_of xs) j d.0) ≡ false =
-          apart_from_distinct (eq_by_cmp R) (keys_of xs) i j d.0 apart less (omega (arith, inside, long)) in
+      apart_from_distinct (eq_by_cmp R) (keys_of xs) i j d.0 apart less (omega (arith, inside, long)) in
       let left : get_or (keys_of xs) i d.0 ≡ (get_or xs i d).0 = get_or-map (λ (e : K × X). e.0) xs i d d.0 (omega (arith, less, inside)) in
       let right : get_or (keys_of xs) j d.0 ≡ (get_or xs j d).0 = get_or-map (λ (e : K × X). e.0) xs j d d.0 inside in
       let one : get_or (keys_of xs) j d.0 ≡ get_or (keys_of xs) i d.0 = right ∙ sym same ∙ sym left in
@@ -193,7 +193,7 @@ module _ {K X : Type 0} {R : K → K → Ordering} (o : IsTotalOrder R) where
     with_inserted-removed x [] here h = ap (λ b. cond b [] (x ∷ [])) here
     with_inserted-removed x (e ∷ es) here h =
         removed_if (before e x) x e es (with_inserted before x es) here (not_first (test e.0) e.1 (lookup test es) h)
-            (with_inserted-removed x es here (not_later (test e.0) e.1 (lookup test es) h))
+        (with_inserted-removed x es here (not_later (test e.0) e.1 (lookup test es) h))
 
   -- an entry of another key than the others is taken out
   pub sorted_by-removed : (k : K) (v : X) (es : List (K × X)) → lookup (is_at (R k)) es ≡ None
@@ -236,4 +236,4 @@ module _ {K X : Type 0} {R : K → K → Ordering} (o : IsTotalOrder R) where
       let apart : AllByRecursion (λ k. is_eq (R e.0 k) ≡ false) (keys_of es) = IsDistinct-head (eq_by_cmp R) e.0 (keys_of es) d in
       let none : lookup (is_at (R e.0)) (sorted_by before es) ≡ None = lookup-sorted_by e.0 es ∙ lookup-absent (is_at (R e.0)) es apart in
       rising-with_inserted e (sorted_by before es) (absent-lookup (is_at (R e.0)) (sorted_by before es) none)
-          (rising-sorted_by es (IsDistinct-tail (eq_by_cmp R) e.0 (keys_of es) d))
+      (rising-sorted_by es (IsDistinct-tail (eq_by_cmp R) e.0 (keys_of es) d))

@@ -58,10 +58,22 @@ fn other_words_are_usage(rt: HostRuntime) -> Result<(), Fail> {
 
 /// Words, and the file that they name: whether it is a new one, and its name.
 const FILES: [(&[&str], Option<(bool, &str)>); 25] = [
-    (&["make", "a", "z", "1", "1", "l1", "2", "255"], Some((true, "a"))),
-    (&["make", "a", "hilbert", "8", "65536", "linf", "2", "255"], Some((true, "a"))),
-    (&["make", "a", "z", "2", "100", "hamming", "120"], Some((true, "a"))),
-    (&["make", "a", "z", "2", "100", "sets", "100", "5"], Some((true, "a"))),
+    (
+        &["make", "a", "z", "1", "1", "l1", "2", "255"],
+        Some((true, "a")),
+    ),
+    (
+        &["make", "a", "hilbert", "8", "65536", "linf", "2", "255"],
+        Some((true, "a")),
+    ),
+    (
+        &["make", "a", "z", "2", "100", "hamming", "120"],
+        Some((true, "a")),
+    ),
+    (
+        &["make", "a", "z", "2", "100", "sets", "100", "5"],
+        Some((true, "a")),
+    ),
     (&["make", "a", "z", "0", "100", "l1", "2", "255"], None),
     (&["make", "a", "z", "9", "100", "l1", "2", "255"], None),
     (&["make", "a", "z", "2", "0", "l1", "2", "255"], None),
@@ -77,7 +89,10 @@ const FILES: [(&[&str], Option<(bool, &str)>); 25] = [
     (&["run", "a", "b"], None),
     (&["check", "mem"], Some((false, "mem"))),
     (&["check", "-"], None),
-    (&["trial", "t", "18446744073709551615", "65536"], Some((true, "t"))),
+    (
+        &["trial", "t", "18446744073709551615", "65536"],
+        Some((true, "t")),
+    ),
     (&["trial", "t", "18446744073709551616", "1"], None),
     (&["trial", "t", "0", "0"], None),
     (&["trial", "t", "0", "65537"], None),

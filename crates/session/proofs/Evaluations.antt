@@ -91,7 +91,7 @@ module _ (t : State) (pivots : length t.pivots ≤ 8) (members : length t.member
 
   join-by : (b : Bool) (c d radius : ℕ)
       → evals_of (if b then join_reply (join_answer (dist t.space) t.pivots (considered_pairs (c == d) (entries_in t.members c) (entries_in t.members d))
-          radius) else Curve) ≤ 2 ^ 32
+      radius) else Curve) ≤ 2 ^ 32
   join-by false c d radius = omega arith
   join-by true c d radius =
       let pairs = considered_pairs (c == d) (entries_in t.members c) (entries_in t.members d) in

@@ -66,7 +66,7 @@ module _ (admitted : List ℕ → Type 0) (distance : List ℕ → List ℕ → 
       let own = considered_pairs (c == d) (entries_of left) (entries_of right) in
       let all = considered_pairs (c == d) (entries_in s.members c) (entries_in s.members d) in
       let moved = considered_pairs-moved (c == d) (entries_in s.members c) (entries_of left) (entries_in s.members d) (entries_of right)
-          lefts.rows rights.rows in
+      lefts.rows rights.rows in
       ap join_reply
       (found
       ∙ ap (λ (f : List ℕ → List ℕ → ℕ). join_answer f pivots own radius) is.distance_is

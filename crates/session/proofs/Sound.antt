@@ -133,7 +133,7 @@ module _ (store : Store) (sound : IsStore store) where
         rows = All-set (AreRows (IsValid store.space) (dist store.space) store.pivots.items) store.tables c rows
             (subst (AreRows (IsValid store.space) (dist store.space) store.pivots.items) (sym is)
             (AreRows-push (IsValid store.space) (dist store.space) store.pivots.items (rows_at store.tables c) row held (let few = few_rows in
-                omega (arith, few)) none valid vect))
+            omega (arith, few)) none valid vect))
             sound.rows;
         room = let more = sum-pushed store.tables c row rows below is in omega (arith, more, room);
         four = length-set store.tables c rows ∙ sound.four;

@@ -26,7 +26,7 @@ pub(crate) struct Store {
 
 impl Store {
     ghost use Rattle.metric_laws.specs.Calls.{RulerContinues};
-ghost use Rattle.std.specs.Prelude.{◌≡◌, ◌+◌, ◌^◌, ◌<◌, ◌≤◌, None, false, IsTrue, IfOk, OnOk, length, sum_by};
+    ghost use Rattle.std.specs.Prelude.{◌≡◌, ◌+◌, ◌^◌, ◌<◌, ◌≤◌, None, false, IsTrue, IfOk, OnOk, length, sum_by};
     ghost use Rattle.metrics_builtin.specs.Space.{fits, IsValid};
     ghost use Rattle.spb_edge.specs.declared.reader.Line.{Line};
     ghost use Rattle.spb_defs.specs.declared.Command.{Command};

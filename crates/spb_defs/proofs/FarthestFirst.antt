@@ -81,7 +81,7 @@ at-chosen dist samples turn (suc n) within = either (λ (below : turn < n). at-c
     either rest true is =
         let same : turn ≡ n = grind (arith, nat_tests) in
         ap (λ (k : ℕ). get_or (chosen_places dist samples (suc n)) k 0) same ∙ at-last dist samples n
-            ∙ ap (λ (k : ℕ). next_place dist samples (chosen_places dist samples k)) (sym same)
+        ∙ ap (λ (k : ℕ). next_place dist samples (chosen_places dist samples k)) (sym same)
     either rest false is =
         let below : turn < n = grind (arith, nat_tests) in
         at-front dist samples turn n below ∙ rest below
@@ -110,9 +110,9 @@ next-farthest dist samples chosen place inside new =
     let holds : get_or worths best 0 ≡ greatest worths = first_place-holds worths in
     let above : get_or worths place 0 ≤ greatest worths = greatest-above worths place in
     let sum : f place ≡ 1 + sum_to dist samples chosen place =
-        worth-of-sum (list_any (λ (other : ℕ). other == place) chosen) (sum_to dist samples chosen place) new in
+    worth-of-sum (list_any (λ (other : ℕ). other == place) chosen) (sum_to dist samples chosen place) new in
     let sum_of_best : greatest worths ≡ 1 + sum_to dist samples chosen best =
-        sum-of-worth (list_any (λ (other : ℕ). other == best) chosen) (sum_to dist samples chosen best) (greatest worths) (sym holds ∙ there) (omega arith) in (
+    sum-of-worth (list_any (λ (other : ℕ). other == best) chosen) (sum_to dist samples chosen best) (greatest worths) (sym holds ∙ there) (omega arith) in (
       omega arith,
       λ (equal : sum_to dist samples chosen place ≡ sum_to dist samples chosen best).
           first_place-earliest (greatest worths) worths place (omega arith) (omega arith),
@@ -182,7 +182,7 @@ greatest-some dist samples chosen fewer = by (greatest worths) refl
     is_chosen none q member =
         let inside = member-below (length samples) q member in
         let here : get_or worths q 0 ≡ worth dist samples chosen q =
-            get_or-map-range_with_len (worth dist samples chosen) 0 (length samples) q q 0 inside (omega arith) in
+        get_or-map-range_with_len (worth dist samples chosen) 0 (length samples) q q 0 inside (omega arith) in
         let above : get_or worths q 0 ≤ greatest worths = greatest-above worths q in
         any_flip q chosen ∙ worth-none (list_any (λ (other : ℕ). other == q) chosen) (sum_to dist samples chosen q) (omega arith)
 
@@ -221,7 +221,7 @@ chosen-distinct dist samples (suc n) enough =
     let many : length front ≡ n = chosen-length dist samples n in
     let new = next-new dist samples front (omega arith) in
     IsDistinct-push nat_eq_equiv front (next_place dist samples front) (chosen-distinct dist samples n (omega arith))
-        (any_flip (next_place dist samples front) front ∙ new)
+    (any_flip (next_place dist samples front) front ∙ new)
 
 pub is_choice : (dist : List ℕ → List ℕ → ℕ) (samples : List (List ℕ)) (n : ℕ) → n ≤ length samples → IsChoice dist samples n (chosen_places dist samples n)
 is_choice dist samples n enough = record {
@@ -256,7 +256,7 @@ choice-front dist samples n places c =
           let first : get_or (take n places) i d ≡ get_or places i d = get_or-take n places i d (omega arith) in
           let second : get_or (take n places) j d ≡ get_or places j d = get_or-take n places j d (omega arith) in
           ap (λ (k : ℕ). nat_eq k (get_or (take n places) j d)) first ∙ ap (nat_eq (get_or places i d)) second
-              ∙ apart_from_distinct nat_eq places i j d c.distinct below (omega arith));
+          ∙ apart_from_distinct nat_eq places i j d c.distinct below (omega arith));
       farthest = λ turn place within inside new.
           let front : take turn (take n places) ≡ take turn places = take-twice turn n places (omega arith) in
           let next : get_or (take n places) turn 0 ≡ get_or places turn 0 = get_or-take n places turn 0 (omega arith) in
@@ -276,7 +276,7 @@ last-new n places distinct many =
     list_any_none (λ (other : ℕ). other == last) (take n places) (All-from_get_or (λ (other : ℕ). (other == last) ≡ false) (take n places) 0 (λ k inside.
     let same : get_or (take n places) k 0 ≡ get_or places k 0 = get_or-take n places k 0 (omega arith) in
     ap (λ (other : ℕ). other == last) same
-        ∙ flip-apart (get_or places k 0) last (apart_from_distinct nat_eq places k n 0 distinct (omega arith) (omega arith))))
+    ∙ flip-apart (get_or places k 0) last (apart_from_distinct nat_eq places k n 0 distinct (omega arith) (omega arith))))
 
 last-is-next : (dist : List ℕ → List ℕ → ℕ) (samples : List (List ℕ)) (n : ℕ) (places : List ℕ) → IsChoice dist samples (suc n) places → suc n ≤ length samples
     → get_or places n 0 ≡ next_place dist samples (take n places)

@@ -116,7 +116,7 @@ to_changes (l ∷ lines) s (suc many) none = by_change (is_change s l) refl (to_
     by_change : (b : Bool) → is_change s l ≡ b
         → Contains (next_state s l ∷ changed_states (next_state s l) lines) (state_after_lines (next_state s l) (take many lines)) →
         Contains (s ∷ (if b then next_state s l ∷ changed_states (next_state s l) lines else changed_states (next_state s l) lines))
-            (state_after_lines (next_state s l) (take many lines))
+        (state_after_lines (next_state s l) (take many lines))
     by_change true is rest = contains_more s (next_state s l ∷ changed_states (next_state s l) lines) (state_after_lines (next_state s l) (take many lines))
         rest
     by_change false is rest = subst (λ (t : State). Contains (t ∷ changed_states (next_state s l) lines)

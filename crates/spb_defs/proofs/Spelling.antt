@@ -125,12 +125,12 @@ space-spelled kind (first ∷ second ∷ []) s e =
     ⊎_elim (λ h. with-two L1 kind first second s (λ m n. word-is kind (codes "l1") h.0) (λ m n. refl) h.1)
     (λ rest. ⊎_elim (λ h. with-two LInf kind first second s (λ m n. word-is kind (codes "linf") h.0) (λ m n. refl) h.1)
     (λ last. let h = if-some (bytes_eq kind (codes "sets")) (space_with_two Sets first second) s last in
-        with-two Sets kind first second s (λ m n. word-is kind (codes "sets") h.0) (λ m n. refl) h.1)
+    with-two Sets kind first second s (λ m n. word-is kind (codes "sets") h.0) (λ m n. refl) h.1)
     (either (bytes_eq kind (codes "linf")) (space_with_two LInf first second) (if bytes_eq kind (codes "sets") then space_with_two Sets first second else None)
-        s rest))
+    s rest))
     (either (bytes_eq kind (codes "l1")) (space_with_two L1 first second)
-        (if bytes_eq kind (codes "linf") then space_with_two LInf first second else
-        (if bytes_eq kind (codes "sets") then space_with_two Sets first second else None)) s e)
+    (if bytes_eq kind (codes "linf") then space_with_two LInf first second else
+    (if bytes_eq kind (codes "sets") then space_with_two Sets first second else None)) s e)
 space-spelled kind (first ∷ second ∷ third ∷ rest) s e = absurd (none-some s e)
 
 checked_space-itself : (s : Space) → IsTrue (fits s) → checked_space s ≡ Some s
@@ -258,7 +258,7 @@ make-spelled (file ∷ curve ∷ pivots ∷ cap ∷ kind ∷ parameters) a e =
     let room = positive-spelled MEMORY_CAP n.0 cap n.1 in
     let space = space-spelled kind parameters s.0 s.1 in
     let words : codes "make" ∷ file ∷ curve ∷ pivots ∷ cap ∷ kind ∷ parameters
-        ≡ codes "make" ∷ file ∷ curve_word c.0 ∷ decimal p.0 ∷ decimal n.0 ∷ kind_of s.0 ∷ parameters_of s.0 =
+    ≡ codes "make" ∷ file ∷ curve_word c.0 ∷ decimal p.0 ∷ decimal n.0 ∷ kind_of s.0 ∷ parameters_of s.0 =
     ap (λ w. codes "make" ∷ file ∷ w ∷ pivots ∷ cap ∷ kind ∷ parameters) (curve-spelled curve c.0 c.1)
     ∙ ap₂ (λ v w. codes "make" ∷ file ∷ curve_word c.0 ∷ v ∷ w ∷ kind ∷ parameters) few.0 room.0
     ∙ ap₂ (λ k ps. codes "make" ∷ file ∷ curve_word c.0 ∷ decimal p.0 ∷ decimal n.0 ∷ k ∷ ps) space.1 space.2 in
@@ -274,8 +274,12 @@ trial-spelled (file ∷ seed ∷ count ∷ []) a e =
     let n = map-some (λ n. Trial s.0 n) (positive_in MEMORY_CAP count) a s.2 in
     let one = seed-spelled seed s.0 s.1 in
     let many = positive-spelled MEMORY_CAP n.0 count n.1 in
-    subst (AreWordsFor (codes "trial" ∷ file ∷ seed ∷ count ∷ [])) n.2 (one.1, many.1, many.2,
-        (file, named.0, ap₂ (λ v w. codes "trial" ∷ file ∷ v ∷ w ∷ []) one.0 many.0))
+    subst (AreWordsFor (codes "trial" ∷ file ∷ seed ∷ count ∷ [])) n.2 (
+      one.1,
+      many.1,
+      many.2,
+      (file, named.0, ap₂ (λ v w. codes "trial" ∷ file ∷ v ∷ w ∷ []) one.0 many.0),
+    )
 trial-spelled (w ∷ x ∷ y ∷ z ∷ rest) a e = absurd (none-some a e)
 
 run-spelled : (words : List (List ℕ)) (a : Asked) → file_alone Run words ≡ Some a → AreWordsFor (codes "run" ∷ words) a
@@ -325,11 +329,11 @@ read words (Mem setup) (fit, few, inr is) = ap asked_of is ∙ ap (option_map Me
 read words (Make curve pivots cap space) (fit, some, few, one, room, (file, named, is)) =
     ap asked_of is ∙ named-read file _ named
     ∙ ap (option_and_then (λ c. option_and_then (λ p. option_and_then (λ n. option_map (λ s. Make c p n s) (space_in (kind_of space) (parameters_of space)))
-        (positive_in MEMORY_CAP (decimal cap))) (positive_in PIVOT_LIMIT (decimal pivots)))) (curve-read curve)
+    (positive_in MEMORY_CAP (decimal cap))) (positive_in PIVOT_LIMIT (decimal pivots)))) (curve-read curve)
     ∙ ap (option_and_then (λ p. option_and_then (λ n. option_map (λ s. Make curve p n s) (space_in (kind_of space) (parameters_of space)))
-        (positive_in MEMORY_CAP (decimal cap)))) (positive-read PIVOT_LIMIT pivots some few (omega (arith, few)))
+    (positive_in MEMORY_CAP (decimal cap)))) (positive-read PIVOT_LIMIT pivots some few (omega (arith, few)))
     ∙ ap (option_and_then (λ n. option_map (λ s. Make curve pivots n s) (space_in (kind_of space) (parameters_of space))))
-        (positive-read MEMORY_CAP cap one room (omega (arith, room)))
+    (positive-read MEMORY_CAP cap one room (omega (arith, room)))
     ∙ ap (option_map (λ s. Make curve pivots cap s)) (space-read space fit)
 read words Run (file, named, is) = ap asked_of is ∙ named-read file (Some Run) named
 read words Check (file, named, is) = ap asked_of is ∙ named-read file (Some Check) named

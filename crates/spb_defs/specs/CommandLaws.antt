@@ -159,8 +159,10 @@ drop_means space name first second command same e =
     let parts = two_read (collection_in first) (id_in second) Discard command e in
     let c = collection_read first parts.0 parts.2 in
     let i = id_read second parts.1 parts.3 in
-    subst (Means space (name ∷ first ∷ second ∷ [])) parts.4 ((c.1, i.1),
-        three_same name first second (codes "drop") (decimal parts.0) (decimal parts.1) (is_name name (codes "drop") same) c.0 i.0)
+    subst (Means space (name ∷ first ∷ second ∷ [])) parts.4 (
+      (c.1, i.1),
+      three_same name first second (codes "drop") (decimal parts.0) (decimal parts.1) (is_name name (codes "drop") same) c.0 i.0,
+    )
 
 get_means : (space : Space) (name first second : List ℕ) (command : Command) → bytes_eq name (codes "get") ≡ true → get_in first second ≡ Ok command
     → Means space (name ∷ first ∷ second ∷ []) command
@@ -169,8 +171,10 @@ get_means space name first second command same e =
     let parts = two_read (collection_in first) (id_in second) Get command e in
     let c = collection_read first parts.0 parts.2 in
     let i = id_read second parts.1 parts.3 in
-    subst (Means space (name ∷ first ∷ second ∷ [])) parts.4 ((c.1, i.1),
-        three_same name first second (codes "get") (decimal parts.0) (decimal parts.1) (is_name name (codes "get") same) c.0 i.0)
+    subst (Means space (name ∷ first ∷ second ∷ [])) parts.4 (
+      (c.1, i.1),
+      three_same name first second (codes "get") (decimal parts.0) (decimal parts.1) (is_name name (codes "get") same) c.0 i.0,
+    )
 
 add_means : (space : Space) (name first second third : List ℕ) (command : Command) → IsTrue (fits space) → bytes_eq name (codes "add") ≡ true
     → add_in space first second third ≡ Ok command → Means space (name ∷ first ∷ second ∷ third ∷ []) command
@@ -244,26 +248,26 @@ words_mean space (name ∷ first ∷ []) command fit e =
     let count : Result Command What = cond (bytes_eq name (codes "count")) (count_in first) (Err what.Command) in
     by_name P command (bytes_eq name (codes "sample")) (sample_in space first) count e (λ same e. sample_means space name first command fit same e) (λ e.
     by_name P command (bytes_eq name (codes "count")) (count_in first) (Err what.Command) e (λ same e. count_means space name first command same e)
-        (no_command (P command) command))
+    (no_command (P command) command))
 words_mean space (name ∷ first ∷ second ∷ []) command fit e =
     let P : Command → Type 0 = Means space (name ∷ first ∷ second ∷ []) in
     let get : Result Command What = cond (bytes_eq name (codes "get")) (get_in first second) (Err what.Command) in
     by_name P command (bytes_eq name (codes "drop")) (drop_in first second) get e (λ same e. drop_means space name first second command same e) (λ e.
     by_name P command (bytes_eq name (codes "get")) (get_in first second) (Err what.Command) e (λ same e. get_means space name first second command same e)
-        (no_command (P command) command))
+    (no_command (P command) command))
 words_mean space (name ∷ first ∷ second ∷ third ∷ []) command fit e =
     let P : Command → Type 0 = Means space (name ∷ first ∷ second ∷ third ∷ []) in
     let join : Result Command What = cond (bytes_eq name (codes "join")) (join_in first second third) (Err what.Command) in
     let near : Result Command What = cond (bytes_eq name (codes "near")) (near_in space first second third) join in
     let range : Result Command What = cond (bytes_eq name (codes "range")) (range_in space first second third) near in
     by_name P command (bytes_eq name (codes "add")) (add_in space first second third) range e
-        (λ same e. add_means space name first second third command fit same e) (λ e.
+    (λ same e. add_means space name first second third command fit same e) (λ e.
     by_name P command (bytes_eq name (codes "range")) (range_in space first second third) near e
-        (λ same e. range_means space name first second third command fit same e) (λ e.
+    (λ same e. range_means space name first second third command fit same e) (λ e.
     by_name P command (bytes_eq name (codes "near")) (near_in space first second third) join e
-        (λ same e. near_means space name first second third command fit same e) (λ e.
+    (λ same e. near_means space name first second third command fit same e) (λ e.
     by_name P command (bytes_eq name (codes "join")) (join_in first second third) (Err what.Command) e
-        (λ same e. join_means space name first second third command same e) (no_command (P command) command))))
+    (λ same e. join_means space name first second third command same e) (no_command (P command) command))))
 words_mean space (a ∷ b ∷ c ∷ d ∷ f ∷ rest) command fit e = absurd (cc)
 
 pub read_line : (space : Space) (line : List ℕ) (command : Command) → IsTrue (fits space) → command_of space line ≡ Ok command → IsWellFormed space command
@@ -288,19 +292,19 @@ unfolding sample_in add_in drop_in get_in count_in range_in near_in join_in
 command_again space (Sample object) fit p = read_one (object_in space (text_of space object)) Sample object (object_again space object fit p)
 command_again space (Add c id object) fit p =
     read_three (collection_in (decimal c)) (id_in (decimal id)) (object_in space (text_of space object)) Add c id object (collection_again c p.0)
-        (id_again id p.1) (object_again space object fit p.2)
+    (id_again id p.1) (object_again space object fit p.2)
 command_again space (Discard c id) fit p = read_two (collection_in (decimal c)) (id_in (decimal id)) Discard c id (collection_again c p.0) (id_again id p.1)
 command_again space (Get c id) fit p = read_two (collection_in (decimal c)) (id_in (decimal id)) Get c id (collection_again c p.0) (id_again id p.1)
 command_again space (Count c) fit p = read_one (collection_in (decimal c)) Count c (collection_again c p)
 command_again space (Range c r object) fit p =
     read_three (collection_in (decimal c)) (radius_in (decimal r)) (object_in space (text_of space object)) Range c r object (collection_again c p.0)
-        (radius_again r p.1) (object_again space object fit p.2)
+    (radius_again r p.1) (object_again space object fit p.2)
 command_again space (Near c k object) fit p =
     read_three (collection_in (decimal c)) (ranks_in (decimal k)) (object_in space (text_of space object)) Near c k object (collection_again c p.0)
-        (ranks_again k p.1.0 p.1.1) (object_again space object fit p.2)
+    (ranks_again k p.1.0 p.1.1) (object_again space object fit p.2)
 command_again space (Join c d r) fit p =
     read_three (collection_in (decimal c)) (collection_in (decimal d)) (radius_in (decimal r)) Join c d r (collection_again c p.0) (collection_again d p.1)
-        (radius_again r p.2)
+    (radius_again r p.2)
 
 free_collection : (c : ℕ) → c < 4 → IsFree 32 (decimal c)
 free_collection c low = free_number c (omega (arith, low))
@@ -323,14 +327,16 @@ split_again space (Count c) fit p =
     split_joined 32 (words_of space (Count c)) (omega arith)
     (free_word (codes "count") (refl, (refl, (refl, (refl, (refl, tt))))), (free_collection c p, tt))
 split_again space (Range c r object) fit p =
-    split_joined 32 (words_of space (Range c r object)) (omega arith)
-    (free_word (codes "range") (refl, (refl, (refl, (refl, (refl, tt))))),
-        (free_collection c p.0, (free_number r p.1, (IsFree-text_of space object fit p.2, tt))))
+    split_joined 32 (words_of space (Range c r object)) (omega arith) (
+      free_word (codes "range") (refl, (refl, (refl, (refl, (refl, tt))))),
+      (free_collection c p.0, (free_number r p.1, (IsFree-text_of space object fit p.2, tt))),
+    )
 split_again space (Near c k object) fit p =
     let few = p.1.1 in
-    split_joined 32 (words_of space (Near c k object)) (omega arith)
-    (free_word (codes "near") (refl, (refl, (refl, (refl, tt)))),
-        (free_collection c p.0, (free_number k (omega (arith, few)), (IsFree-text_of space object fit p.2, tt))))
+    split_joined 32 (words_of space (Near c k object)) (omega arith) (
+      free_word (codes "near") (refl, (refl, (refl, (refl, tt)))),
+      (free_collection c p.0, (free_number k (omega (arith, few)), (IsFree-text_of space object fit p.2, tt))),
+    )
 split_again space (Join c d r) fit p =
     split_joined 32 (words_of space (Join c d r)) (omega arith)
     (free_word (codes "join") (refl, (refl, (refl, (refl, tt)))), (free_collection c p.0, (free_collection d p.1, (free_number r p.2, tt))))

@@ -84,7 +84,7 @@ pub number_within-whole : (bound n : ℕ) (word : List ℕ) → number_within bo
 number_within-whole bound n word e =
     let plain = number_of-some word n (at_most-some bound n (number_of word) e).0 in
     slice_split_none (λ b. b == 44) word
-        (All-from_get_or (λ x. (x == 44) ≡ false) word 0 (λ k h. no_comma (get_or word k 0) (digit_at word k plain.digits h).0))
+    (All-from_get_or (λ x. (x == 44) ≡ false) word 0 (λ k h. no_comma (get_or word k 0) (digit_at word k plain.digits h).0))
 
 -- ---- numbers
 
@@ -106,6 +106,6 @@ pub decimal-number_within : (bound n : ℕ) → n ≤ bound → n < 2 ^ 64 → n
 decimal-number_within bound n low small =
     let value : digits_value 10 (decimal n) ≡ n = (decimal_is_IsNumeral n small).1 in
     let read : number_of (decimal n) ≡ Some n = number_of-plain (decimal n) (plain_decimal (decimal n) n small refl (sym value))
-        ∙ ap (λ (k : ℕ). Some k) value in
+    ∙ ap (λ (k : ℕ). Some k) value in
     let test : nat_le n bound ≡ true = grind (arith, nat_tests) in
     ap (at_most bound) read ∙ ap (λ (b : Bool). cond b (Some n) None) test

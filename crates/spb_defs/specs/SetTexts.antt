@@ -22,7 +22,7 @@ rising_from (x ∷ []) e k h = absurd (omega arith)
 rising_from (x ∷ y ∷ rest) e zero h = let first = (and_parts (nat_lt x y) (is_rising (y ∷ rest)) e).0 in grind (arith, nat_tests)
 rising_from (x ∷ y ∷ rest) e (suc k) h =
     let step : get_or (y ∷ rest) k 0 < get_or (y ∷ rest) (k + 1) 0 =
-        rising_from (y ∷ rest) (and_parts (nat_lt x y) (is_rising (y ∷ rest)) e).1 k (omega arith) in
+    rising_from (y ∷ rest) (and_parts (nat_lt x y) (is_rising (y ∷ rest)) e).1 k (omega arith) in
     let next : suc (k + 1) ≡ suc k + 1 = omega arith in
     subst (λ j. get_or (y ∷ rest) k 0 < get_or (x ∷ y ∷ rest) j 0) next step
 
@@ -86,7 +86,7 @@ same_object a b e = cc
 
 by_test : (universe most : ℕ) (text object : List ℕ) (b : Bool) → 1 ≤ universe → universe < 2 ^ 32 → (b ≡ true → text ≡ codes "-") →
     cond b (Some []) (option_and_then (set_with most) (numbers_in (universe - 1) text)) ≡ Some object → IsSubset universe most object
-        × (text ≡ set_text (components object))
+    × (text ≡ set_text (components object))
 by_test universe most text object true one small dash e =
     let none : [] ≡ object = same_object [] object e in
     (subst (IsSubset universe most) none (empty_set universe most), dash refl ∙ sym text_of_none ∙ ap (λ o. set_text (components o)) none)
@@ -122,7 +122,7 @@ elements_read universe most (n ∷ ns) small v =
     let low : All (λ k. k ≤ universe - 1) (n ∷ ns) = at_most_last universe (n ∷ ns) v.within in
     let few = v.few in
     let dash : bytes_eq (numbers_text (n ∷ ns)) (codes "-") ≡ false =
-        not_true _ (λ e. no_dash (universe - 1) (n ∷ ns) (omega arith) low ((bytes_eq-Decides (numbers_text (n ∷ ns)) (codes "-")).0 e)) in
+    not_true _ (λ e. no_dash (universe - 1) (n ∷ ns) (omega arith) low ((bytes_eq-Decides (numbers_text (n ∷ ns)) (codes "-")).0 e)) in
     let read : numbers_in (universe - 1) (numbers_text (n ∷ ns)) ≡ Some (n ∷ ns) = text-numbers_in (universe - 1) (n ∷ ns) (omega arith) (omega arith) low in
     let many : nat_le (length (n ∷ ns)) most ≡ true = grind (arith, nat_tests) in
     let test : (nat_le (length (n ∷ ns)) most && is_rising (n ∷ ns)) ≡ true = ap (λ b. b && is_rising (n ∷ ns)) many ∙ rising_test (n ∷ ns) v.rising in
@@ -150,4 +150,4 @@ free_elements universe most (n ∷ ns) small v =
 pub IsFree-set : (universe most : ℕ) (object : List ℕ) → universe < 2 ^ 32 → IsSubset universe most object → IsFree 32 (set_text (components object))
 IsFree-set universe most object small v =
     subst (λ (ns : List ℕ). IsFree 32 (set_text ns)) (sym (components-IsSubset universe most object small v))
-        (free_elements universe most v.elements small v.set)
+    (free_elements universe most v.elements small v.set)

@@ -66,7 +66,7 @@ reply_of t (command.Range c r object) = range_reply (range_answer (dist t.space)
 reply_of t (command.Near c k object) = near_reply (near_answer (dist t.space) t.pivots (entries_in t.members c) object k)
 reply_of t (command.Join c d r) =
     if allows_joins t.curve then join_reply
-        (join_answer (dist t.space) t.pivots (considered_pairs (c == d) (entries_in t.members c) (entries_in t.members d)) r)
+    (join_answer (dist t.space) t.pivots (considered_pairs (c == d) (entries_in t.members c) (entries_in t.members d)) r)
     else Curve
 
 -- that state after the command

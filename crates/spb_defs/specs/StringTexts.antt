@@ -71,7 +71,7 @@ string_read len text object v e =
     let two : length text ≡ 2 * length object = ap length e ∙ length-encode_with lower_digits object in
     let decoded : decode_sized text len ≡ Ok object =
     decode_sized-pairs text len (omega arith) (omega arith) ∙ ap (decode_pairs 0) e
-        ∙ decode_pairs-encode_with lower_digits IsDigits-lower_digits 0 object (are_bytes len object v) in
+    ∙ decode_pairs-encode_with lower_digits IsDigits-lower_digits 0 object (are_bytes len object v) in
     let same : bytes_eq (encode_lower object) text ≡ true = (bytes_eq-Decides (encode_lower object) text).1 (sym e) in
     ap (string_with text) decoded ∙ ap (λ (b : Bool). cond b (Some object) None) same
 
@@ -92,9 +92,9 @@ bytes_free [] h = λ k d inside. absurd (omega arith)
 bytes_free (b ∷ rest) h =
     let small : b < 256 = h 0 0 (omega arith) in
     All-cons (λ x. (x == 32) ≡ false) (slice_index lower_digits (b / 16)) (slice_index lower_digits (b % 16) ∷ encode_lower rest)
-        (digit_free (b / 16) (omega arith))
+    (digit_free (b / 16) (omega arith))
     (All-cons (λ x. (x == 32) ≡ false) (slice_index lower_digits (b % 16)) (encode_lower rest) (digit_free (b % 16) (omega arith))
-        (bytes_free rest (All-tail (λ x. x < 256) b rest h)))
+    (bytes_free rest (All-tail (λ x. x < 256) b rest h)))
 
 pub IsFree-string : (len : ℕ) (object : List ℕ) → IsString len object → IsFree 32 (encode_lower object)
 IsFree-string len object v = bytes_free object v.bytes

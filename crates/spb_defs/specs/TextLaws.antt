@@ -46,7 +46,7 @@ All-numbers_within bound (word ∷ words) ns e =
     let parts = consed (number_within bound word) (numbers_within bound words) ns e in
     let rest : All (λ n. n ≤ bound) parts.numbers = All-numbers_within bound words parts.numbers parts.behind in
     subst (All (λ n. n ≤ bound)) (sym parts.both)
-        (All-cons (λ n. n ≤ bound) parts.number parts.numbers (number_within-le bound parts.number word parts.here) rest)
+    (All-cons (λ n. n ≤ bound) parts.number parts.numbers (number_within-le bound parts.number word parts.here) rest)
 
 -- ---- words without a byte
 
@@ -82,7 +82,7 @@ numbers_within-decimals bound (word ∷ words) ns e =
     let parts = consed (number_within bound word) (numbers_within bound words) ns e in
     let rest : words ≡ map decimal parts.numbers = numbers_within-decimals bound words parts.numbers parts.behind in
     ap (λ (w : List ℕ). w ∷ words) (number_within-decimal bound parts.number word parts.here).0 ∙ ap (λ (ws : List (List ℕ)). decimal parts.number ∷ ws) rest
-        ∙ ap (map decimal) (sym parts.both)
+    ∙ ap (map decimal) (sym parts.both)
 
 pub decimals-numbers_within : (bound : ℕ) (ns : List ℕ) → bound < 2 ^ 64 → All (λ n. n ≤ bound) ns → numbers_within bound (map decimal ns) ≡ Some ns
 decimals-numbers_within bound [] small h = refl

@@ -60,7 +60,7 @@ vector_read dim most text object some small v e =
     let read : numbers_in most text ≡ Some v.numbers = ap (numbers_in most) text_is ∙ text-numbers_in most v.numbers (omega arith) (omega arith) v.within in
     let test : (length v.numbers == dim) ≡ true = grind (arith, nat_tests) in
     ap (option_and_then (vector_with dim)) read ∙ ap (λ (b : Bool). cond b (Some (object_of_components v.numbers)) None) test
-        ∙ ap (λ (o : List ℕ). Some o) (sym v.spelling)
+    ∙ ap (λ (o : List ℕ). Some o) (sym v.spelling)
 
 pub IsFree-vector : (dim most : ℕ) (object : List ℕ) → most < 2 ^ 32 → IsVector dim most object → IsFree 32 (numbers_text (components object))
 IsFree-vector dim most object small v =

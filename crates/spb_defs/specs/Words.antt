@@ -81,7 +81,7 @@ abbrev pub make_in : List (List ℕ) → Option Asked
 make_in (file ∷ curve ∷ pivots ∷ cap ∷ kind ∷ parameters) =
     if names_file file
     then option_and_then (λ c. option_and_then (λ p. option_and_then (λ n. option_map (λ s. Make c p n s) (space_in kind parameters))
-        (positive_in MEMORY_CAP cap)) (positive_in PIVOT_LIMIT pivots)) (curve_in curve)
+    (positive_in MEMORY_CAP cap)) (positive_in PIVOT_LIMIT pivots)) (curve_in curve)
     else None
 make_in _ = None
 
@@ -169,7 +169,7 @@ AreWordsFor words (Mem setup) =
 AreWordsFor words (Make curve pivots cap space) =
     IsTrue (fits space) × (1 ≤ pivots) × (pivots ≤ PIVOT_LIMIT) × (1 ≤ cap) × (cap ≤ MEMORY_CAP)
     × ((file : List ℕ) × IsTrue (names_file file)
-        × (words ≡ codes "make" ∷ file ∷ curve_word curve ∷ decimal pivots ∷ decimal cap ∷ kind_of space ∷ parameters_of space))
+    × (words ≡ codes "make" ∷ file ∷ curve_word curve ∷ decimal pivots ∷ decimal cap ∷ kind_of space ∷ parameters_of space))
 AreWordsFor words Run = (file : List ℕ) × IsTrue (names_file file) × (words ≡ codes "run" ∷ file ∷ [])
 AreWordsFor words Check = (file : List ℕ) × IsTrue (names_file file) × (words ≡ codes "check" ∷ file ∷ [])
 AreWordsFor words (Trial seed count) =

@@ -32,14 +32,14 @@ pub fn worked_rows()
     // Without pivots all distances are computed, but for those after a last rank at distance 0.
     ensures nearest { AreAnswered
         (codes "add 0 1 0,0" ∷ codes "add 0 2 3,4" ∷ codes "add 0 3 10,0" ∷ codes "add 0 4 3,0" ∷ codes "near 0 2 3,1" ∷ codes "near 0 1 3,4" ∷ codes
-            "near 0 9 3,0" ∷ codes "near 1 1 0,0" ∷ [])
+        "near 0 9 3,0" ∷ codes "near 1 1 0,0" ∷ [])
         (codes "ok" ∷ codes "ok" ∷ codes "ok" ∷ codes "ok" ∷ codes "near 2 evals 4: 4@1 2@3" ∷ codes "near 1 evals 2: 2@0" ∷ codes
-            "near 4 evals 4: 4@0 1@3 2@4 3@7" ∷ codes "near 0 evals 0:" ∷ []) }
+        "near 4 evals 4: 4@0 1@3 2@4 3@7" ∷ codes "near 0 evals 0:" ∷ []) }
     ensures joined { AreAnswered
         (codes "add 0 1 0,0" ∷ codes "add 0 2 3,4" ∷ codes "add 1 1 1,1" ∷ codes "add 1 9 3,5" ∷ codes "join 0 1 3" ∷ codes "join 1 0 3" ∷ codes "join 0 1 8" ∷
-            codes "join 0 0 7" ∷ codes "join 0 2 x" ∷ [])
+        codes "join 0 0 7" ∷ codes "join 0 2 x" ∷ [])
         (codes "ok" ∷ codes "ok" ∷ codes "ok" ∷ codes "ok" ∷ codes "join 2 evals 4 sure 0: 1-1 2-9" ∷ codes "join 2 evals 4 sure 0: 1-1 9-2" ∷ codes
-            "join 4 evals 4 sure 0: 1-1 1-9 2-1 2-9" ∷ codes "join 1 evals 1 sure 0: 1-2" ∷ codes "bad number" ∷ []) }
+        "join 4 evals 4 sure 0: 1-1 1-9 2-1 2-9" ∷ codes "join 1 evals 1 sure 0: 1-2" ∷ codes "bad number" ∷ []) }
     // 16385 bytes are too many, and 16384 are read.
     ensures long { play plane (with_lf (replicate 16385 97) ++ replicate 16384 97) ≡ with_lf (codes "long") ++ with_lf (codes "bad command") }
     // No LF ends the last line.
@@ -76,7 +76,7 @@ pub fn worked_pivots()
         (thrice_ok ++ codes "ok" ∷ codes "ok" ∷ codes "ok" ∷ codes "ok" ∷ codes "join 2 evals 1 sure 1: 1-1 2-9" ∷ []) }
     ensures twins { AreAnsweredWith 2
         (three_samples ++ codes "add 0 1 7,7" ∷ codes "add 0 2 7,7" ∷ codes "join 0 0 0" ∷ codes "add 1 8 1,0" ∷ codes "add 1 7 0,1" ∷ codes "near 1 1 0,0" ∷
-            [])
+        [])
         (thrice_ok ++ codes "ok" ∷ codes "ok" ∷ codes "join 1 evals 1 sure 0: 1-2" ∷ codes "ok" ∷ codes "ok" ∷ codes "near 1 evals 3: 7@1" ∷ []) }
     // An object whose bound is the distance of the last rank is measured if its id is less.
     ensures tied { AreAnsweredWith 1
@@ -105,7 +105,7 @@ pub fn worked_pivots()
 pub fn worked_files()
     ensures full { IsAnswered (plane_in_file Z 3)
         (codes "add 0 1 0,0" ∷ codes "add 1 2 3,4" ∷ codes "add 0 3 10,0" ∷ codes "add 0 4 1,1" ∷ codes "add 1 2 9,9" ∷ codes "drop 0 1" ∷ codes "add 0 4 1,1"
-            ∷ codes "get 1 2" ∷ codes "get 0 1" ∷ [])
+        ∷ codes "get 1 2" ∷ codes "get 0 1" ∷ [])
         (codes "ok" ∷ codes "ok" ∷ codes "ok" ∷ codes "full" ∷ codes "exists" ∷ codes "ok" ∷ codes "ok" ∷ codes "object 3,4" ∷ codes "absent" ∷ []) }
     ensures late { IsAnswered (plane_in_file Z 3)
         (codes "sample 1,1" ∷ codes "sample 256,0" ∷ [])

@@ -29,7 +29,7 @@ pub join-rest : (byte : ℕ) (kept : List ℕ) (range : Extent) (ranges : List E
     → ReachTo (length (overwritten_at kept range.at (replicate range.len byte))) ranges least
 join-rest byte kept range ranges least (within, rest) =
     subst (λ (n : ℕ). ReachTo n ranges least) (sym (length-overwritten_at kept range.at (replicate range.len byte) within
-        ∙ ap (λ n. max (length kept) (range.at + n)) (length-replicate range.len byte))) rest
+    ∙ ap (λ n. max (length kept) (range.at + n)) (length-replicate range.len byte))) rest
 
 -- each range filled with a byte is a crash state
 pub fills : (byte : ℕ) (kept : List ℕ) (ranges : List Extent) (least : ℕ) → ReachTo (length kept) ranges least
@@ -73,14 +73,14 @@ grown-overwritten_at old items with_ranges_filled at count growth byte len withi
     let more = replicate growth byte in
     let sized : length items ≡ length old + growth = ap length grown ∙ length-append old more ∙ ap (λ n. length old + n) (length-replicate growth byte) in
     let long : length with_ranges_filled ≡ length items = ap length put ∙ length-overwritten_at items at bytes (omega (arith, sized, within))
-        ∙ omega (arith, sized, is, within, length-replicate count byte) in
+    ∙ omega (arith, sized, is, within, length-replicate count byte) in
     let none : drop (length with_ranges_filled) items ≡ [] = drop_of_length-le items (omega (arith, long)) in
     let all : take len (with_ranges_filled ++ drop (length with_ranges_filled) items) ≡ with_ranges_filled =
     ap (λ l. take len (with_ranges_filled ++ l)) none ∙ ap (take len) (append-nil with_ranges_filled) ∙ ap (λ n. take n with_ranges_filled) (same ∙ sym long)
-        ∙ take-length with_ranges_filled in
+    ∙ take-length with_ranges_filled in
     let reach : (growth ≡ 0) ⊎ (length old + growth ≤ at + length bytes) =
     ⊎_elim (λ lt. inl (omega (arith, is, lt, length-replicate count byte))) (λ le. inr (omega (arith, is, le, within, length-replicate count byte)))
-        (cases_lt (at + length bytes) (length old)) in
+    (cases_lt (at + length bytes) (length old)) in
     all ∙ put ∙ ap (λ i. overwritten_at i at bytes) grown
     ∙ ap (λ front. front ++ bytes ++ drop (at + length bytes) (old ++ more)) (take-append-le at old more within)
     ∙ ap (λ rest. take at old ++ bytes ++ rest) (behind (at + length bytes) (reach))

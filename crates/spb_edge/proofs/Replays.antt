@@ -18,7 +18,7 @@ module _ (failing : List ℕ) where
   pub replayed-more : (number last : ℕ) (now : Contents) (calls : List DiskCall) (written : List ℕ) (call : DiskCall) (bytes : List ℕ)
       → sum_by written_count calls ≡ length written → written_count call ≡ length bytes → last ≡ number + length calls
       → replayed failing number now (calls ++ call ∷ []) (written ++ bytes)
-          ≡ contents_after (is_failing failing last) call bytes (replayed failing number now calls written)
+      ≡ contents_after (is_failing failing last) call bytes (replayed failing number now calls written)
   replayed-more number last now [] [] call bytes sums count is =
       let first : number ≡ last = omega (arith, is) in
       ap (λ n. contents_after (is_failing failing n) call (take (written_count call) bytes) now) first
@@ -28,28 +28,28 @@ module _ (failing : List ℕ) where
       let sum = sum_by-cons written_count k calls in
       let some : written_count k ≤ length written = omega (arith, sums, sum) in
       ap (λ b. replayed failing (number + 1) (contents_after (is_failing failing number) k b now) (calls ++ call ∷ [])
-          (drop (written_count k) (written ++ bytes))) (take-append-le (written_count k) written bytes some)
+      (drop (written_count k) (written ++ bytes))) (take-append-le (written_count k) written bytes some)
       ∙ ap (λ b. replayed failing (number + 1) (contents_after (is_failing failing number) k (take (written_count k) written) now) (calls ++ call ∷ []) b)
-          (drop-append-le (written_count k) written bytes some)
+      (drop-append-le (written_count k) written bytes some)
       ∙ replayed-more (number + 1) last (contents_after (is_failing failing number) k (take (written_count k) written) now) calls
-          (drop (written_count k) written) call bytes
+      (drop (written_count k) written) call bytes
       (omega (arith, sums, sum, some, length-drop (written_count k) written)) count (omega (arith, is))
 
   -- what it held before the last call is what the ones before left
   pub earlier_contents-more : (number : ℕ) (now : Contents) (calls : List DiskCall) (written : List ℕ) (call : DiskCall) (bytes : List ℕ)
       → sum_by written_count calls ≡ length written
       → earlier_contents failing number now (calls ++ call ∷ []) (written ++ bytes) ≡ earlier_contents failing number now calls written
-          ++ replayed failing number now calls written ∷ []
+      ++ replayed failing number now calls written ∷ []
   earlier_contents-more number now [] written call bytes sums = refl
   earlier_contents-more number now (k ∷ calls) written call bytes sums =
       let sum = sum_by-cons written_count k calls in
       let some : written_count k ≤ length written = omega (arith, sums, sum) in
       ap (λ b. now ∷ earlier_contents failing (number + 1) (contents_after (is_failing failing number) k b now) (calls ++ call ∷ [])
-          (drop (written_count k) (written ++ bytes))) (take-append-le (written_count k) written bytes some)
+      (drop (written_count k) (written ++ bytes))) (take-append-le (written_count k) written bytes some)
       ∙ ap (λ b. now ∷ earlier_contents failing (number + 1) (contents_after (is_failing failing number) k (take (written_count k) written) now)
-          (calls ++ call ∷ []) b) (drop-append-le (written_count k) written bytes some)
+      (calls ++ call ∷ []) b) (drop-append-le (written_count k) written bytes some)
       ∙ ap (λ (l : List Contents). now ∷ l) (earlier_contents-more (number + 1)
-          (contents_after (is_failing failing number) k (take (written_count k) written) now) calls (drop (written_count k) written) call bytes
+      (contents_after (is_failing failing number) k (take (written_count k) written) now) calls (drop (written_count k) written) call bytes
       (omega (arith, sums, sum, some, length-drop (written_count k) written)))
 
 -- one more state is added to those that might have left the image
@@ -79,13 +79,13 @@ elapses-by held later old new n m at is pushed = record {
   nothing_else = λ t c le left. ⊎_elim (λ now. inr now) (λ had. inl (was t c le had)) left;
   keeps = λ t c le left. inr (subst (λ (l : List Contents). HadCrashState (drop t l) c) (sym pushed)
       (subst (λ (l : List Contents). HadCrashState l c) (sym (drop-push t held old (omega (arith, le, at))))
-          (had-more (drop t held) old c (⊎_elim (λ now. inr now) (λ had. inl had) left))));
+      (had-more (drop t held) old c (⊎_elim (λ now. inr now) (λ had. inl had) left))));
 }
   where
     was : (t : ℕ) (c : List ℕ) → t ≤ n → HadCrashState (drop t later) c → IsCrashState old c ⊎ HadCrashState (drop t held) c
     was t c le had = ⊎_elim (λ earlier_contents. inr earlier_contents) (λ now. inl now)
         (had-last (drop t held) old c (subst (λ (l : List Contents). HadCrashState l c) (drop-push t held old (omega (arith, le, at)))
-            (subst (λ (l : List Contents). HadCrashState (drop t l) c) pushed had)))
+        (subst (λ (l : List Contents). HadCrashState (drop t l) c) pushed had)))
 
 module _ (first : List ℕ) (log : Log) (held : Contents) (reached : IsReplayed first log held) (call : DiskCall) (bytes : List ℕ)
     (count : written_count call ≡ length bytes) where
@@ -130,13 +130,13 @@ module _ (first : List ℕ) (log : Log) (held : Contents) (reached : IsReplayed 
       → IsReplayed first log' held'
   reached-call log' held' logs holds =
       subst (λ (l : Log). IsReplayed first l held') (sym logs)
-          (subst (λ (h : Contents). IsReplayed first (log_after call bytes log) h) (sym holds) (reached-by (is_made log (length bytes))))
+      (subst (λ (h : Contents). IsReplayed first (log_after call bytes log) h) (sym holds) (reached-by (is_made log (length bytes))))
 
   elapses-parts : (accepted : Bool) → (log' : Log) (held' : Contents) → log' ≡ (if accepted then with_call call bytes log else with_refusal log)
       → held' ≡ (if accepted then contents_after (fails_next log) call bytes held else held)
       → Elapses (length log.calls) (length log'.calls) (λ t c. IsCrashState held c
-          ⊎ HadCrashState (drop t (contents_before_calls first log)) c) (λ t c. IsCrashState held' c
-          ⊎ HadCrashState (drop t (contents_before_calls first log')) c) (IsCrashState held')
+      ⊎ HadCrashState (drop t (contents_before_calls first log)) c) (λ t c. IsCrashState held' c
+      ⊎ HadCrashState (drop t (contents_before_calls first log')) c) (IsCrashState held')
   elapses-parts true log' held' logs holds =
       elapses-by (contents_before_calls first log) (contents_before_calls first log') held held' (length log.calls) (length log'.calls)
       (sym (length-earlier_contents log.failing 1 (fresh_contents first log.call_room) log.calls log.written))
@@ -157,9 +157,9 @@ pub elapses-call : (was old new : DiskState) → was ≡ old → IsReplayed was.
     → Elapses (length old.log.calls) (length new.log.calls) (crash_states_since old) (crash_states_since new) (IsCrashState new.held)
 elapses-call was old new opened reached call bytes count firsts logs holds =
     subst (λ (d : DiskState). Elapses (length d.log.calls) (length new.log.calls) (crash_states_since d) (crash_states_since new) (IsCrashState new.held))
-        opened
+    opened
     (subst (λ (f : List ℕ). Elapses (length was.log.calls) (length new.log.calls) (crash_states_since was) (λ t c. IsCrashState new.held c
-        ⊎ HadCrashState (drop t (contents_before_calls f new.log)) c) (IsCrashState new.held)) (sym firsts)
+    ⊎ HadCrashState (drop t (contents_before_calls f new.log)) c) (IsCrashState new.held)) (sym firsts)
     (elapses-parts was.first was.log was.held reached call bytes count (is_made was.log (length bytes)) new.log new.held logs holds))
 
 -- a call that leaves what the disk holds is quiet

@@ -60,14 +60,14 @@ abbrev pub earlier_contents : List ℕ → ℕ → Contents → List DiskCall �
 earlier_contents failing number now [] written = []
 earlier_contents failing number now (call ∷ calls) written =
     now ∷ earlier_contents failing (number + 1) (contents_after (is_failing failing number) call (take (written_count call) written) now) calls
-        (drop (written_count call) written)
+    (drop (written_count call) written)
 
 -- what it holds after them
 abbrev pub replayed : List ℕ → ℕ → Contents → List DiskCall → List ℕ → Contents
 replayed failing number now [] written = now
 replayed failing number now (call ∷ calls) written =
     replayed failing (number + 1) (contents_after (is_failing failing number) call (take (written_count call) written) now) calls
-        (drop (written_count call) written)
+    (drop (written_count call) written)
 
 -- the image was a crash state of one of them
 abbrev pub HadCrashState : List Contents → List ℕ → Type 0
@@ -107,7 +107,7 @@ pub length-earlier_contents : (failing : List ℕ) (number : ℕ) (now : Content
 length-earlier_contents failing number now [] written = refl
 length-earlier_contents failing number now (call ∷ calls) written =
     ap suc (length-earlier_contents failing (number + 1) (contents_after (is_failing failing number) call (take (written_count call) written) now) calls
-        (drop (written_count call) written))
+    (drop (written_count call) written))
 
 none_left : (held : List Contents) (c : List ℕ) → HadCrashState (drop (length held) held) c → ⊥
 none_left [] c had = had

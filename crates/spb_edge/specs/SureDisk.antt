@@ -10,7 +10,7 @@ pub record Image : Type 0 where
 -- if the bytes stay, nothing visible happens
 pub quiet_is : (old new : Image) → new.bytes ≡ old.bytes
     → IsQuiet (λ (d : Image). true) (λ (d : Image). false) (λ (d : Image). length d.bytes) (λ (d : Image). d.bytes) (λ d c. Unit {0}) (λ d. 0)
-        (λ d t c. Unit {0}) old new
+    (λ d t c. Unit {0}) old new
 quiet_is old new same = record {
   tells = refl;
   tells_crashes_too = refl;

@@ -88,9 +88,9 @@ spelled_plain words (Mem setup) (fit, few, inr is) =
 spelled_plain words (Make curve pivots cap space) (fit, some, few, one, room, (file, named, is)) =
     ap (list_all names_file) is
     ∙ ap₂ (λ a b. a && (b && (names_file (decimal pivots)
-        && (names_file (decimal cap) && (names_file (kind_of space) && list_all names_file (parameters_of space)))))) named (curve_plain curve)
+    && (names_file (decimal cap) && (names_file (kind_of space) && list_all names_file (parameters_of space)))))) named (curve_plain curve)
     ∙ ap₂ (λ a b. a && (b && (names_file (kind_of space) && list_all names_file (parameters_of space)))) (number_plain pivots (omega (arith, few)))
-        (number_plain cap (omega (arith, room)))
+    (number_plain cap (omega (arith, room)))
     ∙ ap₂ (λ a b. a && b) (kind_plain space) (parameters_plain space fit)
 spelled_plain words Run (file, named, is) = ap (list_all names_file) is ∙ ap (λ b. b && true) named
 spelled_plain words Check (file, named, is) = ap (list_all names_file) is ∙ ap (λ b. b && true) named

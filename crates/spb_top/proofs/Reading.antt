@@ -42,7 +42,7 @@ walk_of : (name : Text) (rest : List Text) → subcommand_met names idle name �
 unfolding walked
 walk_of name rest met =
     ap (λ o. let step = subcommand_or_other [] o idle 1 name nothing_held in
-        fold (walked [] names) (after_step [] name (walk_from nothing_held) step.0 step.1) rest) met
+    fold (walked [] names) (after_step [] name (walk_from nothing_held) step.0 step.1) rest) met
     ∙ folded (walked [] names) (entering name) (λ words word. refl) [] rest
 
 entered_without_fault : (s : Shape) (name : Text) (words rest : List Text) → walk_fault s names (entering name words) rest ≡ []
@@ -55,7 +55,7 @@ abbrev program_fault : Kinds → Walk → Kinds
 program_fault first w =
     or_else first (or_else (entered_fault program w.stopped) (or_else (settle_fault program.top.rules program.top.args_override_self w.held)
     (or_else (defaults_fault (settled program.top.rules w.held).rows program.top.rules)
-        (check_fault program.top (finished program.top.rules w.held) (is_some (entered program w.stopped))))))
+    (check_fault program.top (finished program.top.rules w.held) (is_some (entered program w.stopped))))))
 
 -- the subcommands in their order
 abbrev sub : ℕ → Shape
@@ -79,7 +79,7 @@ unfolding walk_fault walked
 first_fault name rest met other =
     ap (λ o. let step = subcommand_or_other [] o idle 1 name nothing_held in
     or_else (or_else (other_fault program.top o name nothing_held) (step_fault program.top 1 step.0 step.1))
-        (walk_fault program.top names (after_step [] name (walk_from nothing_held) step.0 step.1) rest)) met
+    (walk_fault program.top names (after_step [] name (walk_from nothing_held) step.0 step.1) rest)) met
     ∙ ap (λ k. or_else (or_else k []) (walk_fault program.top names (entering name []) rest)) other ∙ entered_without_fault program.top name [] rest
 
 -- by what computes of a name and its subcommand
@@ -135,7 +135,7 @@ reads_mem [] plain none = absurd (fails none)
 reads_mem (kind ∷ []) plain none = absurd (fails none)
 reads_mem (kind ∷ first ∷ more) plain none =
     ap (λ (p : Place). words_matched (codes "mem") (finished (sub 0).rules p.held))
-        (folded (moved (sub 0).rules) (mem_at kind) (λ words word. refl) (first ∷ []) more)
+    (folded (moved (sub 0).rules) (mem_at kind) (λ words word. refl) (first ∷ []) more)
 
 abbrev make_at : Text → Text → Text → Text → Text → List Text → Place
 make_at file curve pivots cap kind parameters = record {
@@ -150,13 +150,13 @@ named file words plain = (both (names_file file) (list_all names_file words) pla
 -- the words of `make` and of `trial`, after a name that can be a file's
 make_is : (file curve pivots cap kind : Text) (parameters : List Text) → names_file file ≡ true
     → option_and_then (λ c. option_and_then (λ p. option_and_then (λ n. option_map (λ s. Make c p n s) (space_in kind parameters))
-        (positive_in MEMORY_CAP cap)) (positive_in PIVOT_LIMIT pivots)) (curve_in curve)
+    (positive_in MEMORY_CAP cap)) (positive_in PIVOT_LIMIT pivots)) (curve_in curve)
     ≡ asked_of (codes "make" ∷ file ∷ curve ∷ pivots ∷ cap ∷ kind ∷ parameters)
 unfolding asked_of
 make_is file curve pivots cap kind parameters named =
     sym (ap (λ b. if b then option_and_then (λ c. option_and_then
-        (λ p. option_and_then (λ n. option_map (λ s. Make c p n s) (space_in kind parameters)) (positive_in MEMORY_CAP cap)) (positive_in PIVOT_LIMIT pivots))
-        (curve_in curve) else None) named)
+    (λ p. option_and_then (λ n. option_map (λ s. Make c p n s) (space_in kind parameters)) (positive_in MEMORY_CAP cap)) (positive_in PIVOT_LIMIT pivots))
+    (curve_in curve) else None) named)
 
 trial_is : (file seed count : Text) → names_file file ≡ true
     → option_and_then (λ s. option_map (λ n. Trial s n) (positive_in MEMORY_CAP count)) (number_of seed) ≡ asked_of (codes "trial" ∷ file ∷ seed ∷ count ∷ [])
@@ -174,7 +174,7 @@ reads_make (file ∷ curve ∷ pivots ∷ cap ∷ []) plain none = absurd (fails
 reads_make (file ∷ curve ∷ pivots ∷ cap ∷ kind ∷ []) plain none = absurd (fails none)
 reads_make (file ∷ curve ∷ pivots ∷ cap ∷ kind ∷ first ∷ more) plain none =
     ap (λ (p : Place). words_matched (codes "make") (finished (sub 1).rules p.held))
-        (folded (moved (sub 1).rules) (make_at file curve pivots cap kind) (λ words word. refl) (first ∷ []) more)
+    (folded (moved (sub 1).rules) (make_at file curve pivots cap kind) (λ words word. refl) (first ∷ []) more)
     ∙ make_is file curve pivots cap kind (first ∷ more) (named file (curve ∷ pivots ∷ cap ∷ kind ∷ first ∷ more) plain)
 
 reads_run : Reads (codes "run") (sub 2)
@@ -214,11 +214,11 @@ unfolding walk_fault walked
 no_subcommand name rest plain met none =
     let first : turn_fault program.top names (walk_from nothing_held) name ≡ stray_fault program.top =
     ap (λ o. let step = subcommand_or_other [] o idle 1 name nothing_held in
-        or_else (other_fault program.top o name nothing_held) (step_fault program.top 1 step.0 step.1)) met
+    or_else (other_fault program.top o name nothing_held) (step_fault program.top 1 step.0 step.1)) met
     ∙ ap₂ (λ k step. or_else k (step_fault program.top 1 step.0 step.1)) (is_no_fault program.top name nothing_held plain)
-        (is_value [] false 1 name nothing_held plain) in
+    (is_value [] false 1 name nothing_held plain) in
     fails (sym (ap (λ k. program_fault (or_else k (walk_fault program.top names (walked [] names (walk_from nothing_held) name) rest))
-        (walk [] names nothing_held (name ∷ rest))) first) ∙ none)
+    (walk [] names nothing_held (name ∷ rest))) first) ∙ none)
 
 pub is_read : (words : List Text) → list_all names_file words ≡ true → IsRead words
 unfolding asked_of walked
@@ -226,11 +226,11 @@ is_read [] plain none = refl
 is_read (name ∷ rest) plain none =
     let parts = both (names_file name) (list_all names_file rest) plain in
     go (bytes_eq (codes "mem") name) (bytes_eq (codes "make") name) (bytes_eq (codes "run") name) (bytes_eq (codes "check") name)
-        (bytes_eq (codes "trial") name) parts.0 parts.1 refl refl refl refl refl none
+    (bytes_eq (codes "trial") name) parts.0 parts.1 refl refl refl refl refl none
   where
     go : (mem make run check trial : Bool) → names_file name ≡ true → list_all names_file rest ≡ true
         → bytes_eq (codes "mem") name ≡ mem → bytes_eq (codes "make") name ≡ make → bytes_eq (codes "run") name ≡ run → bytes_eq (codes "check") name ≡ check
-            → bytes_eq (codes "trial") name ≡ trial
+        → bytes_eq (codes "trial") name ≡ trial
         → IsRead (name ∷ rest)
     go true make run check trial one all e1 e2 e3 e4 e5 =
         by_name name (codes "mem") (λ n. IsRead (n ∷ rest)) e1 (entered_read (codes "mem") (sub 0) rest all (enters_mem rest all) reads_mem)
@@ -310,7 +310,7 @@ pub matches_ask : (app : App) (words : List Text) (r : Result ArgMatches Error) 
 matches_ask app words r m is plain ok matches kinds =
     let has : HasMatchesOf command_spb words m = subst (λ a. HasMatchesOf a words m) is (subst (λ r. IfOk r (HasMatchesOf app words)) ok matches) in
     let none : FailsBy (fault_of command_spb words) (Ok m) =
-        subst (λ r. FailsBy (fault_of command_spb words) r) ok (subst (λ a. is_simple_and_free a ≡ true → FailsBy (fault_of a words) r) is kinds is_free) in
+    subst (λ r. FailsBy (fault_of command_spb words) r) ok (subst (λ a. is_simple_and_free a ≡ true → FailsBy (fault_of a words) r) is kinds is_free) in
     ap asked_matched (has refl).1 ∙ is_read words plain none
 
 -- if a parse fails, but not because memory ran out, the words ask for nothing
@@ -319,7 +319,7 @@ pub refusal_asks_nothing : (app : App) (words : List Text) (r : Result ArgMatche
     → (is_simple_and_free app ≡ true → FailsBy (fault_of app words) r) → (error_kind e ≡ OutOfMemory → ⊥) → asked_of words ≡ None
 refusal_asks_nothing app words r e is plain err kinds other =
     let fails_by : HasKind (fault_of command_spb words) e =
-        subst (λ r. FailsBy (fault_of command_spb words) r) err (subst (λ a. is_simple_and_free a ≡ true → FailsBy (fault_of a words) r) is kinds is_free) in
+    subst (λ r. FailsBy (fault_of command_spb words) r) err (subst (λ a. is_simple_and_free a ≡ true → FailsBy (fault_of a words) r) is kinds is_free) in
     go (asked_of words) refl fails_by
   where
     go : (o : Option Asked) → asked_of words ≡ o → HasKind (fault_of command_spb words) e → o ≡ None

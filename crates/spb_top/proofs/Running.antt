@@ -136,7 +136,7 @@ module _ {S : Type 0} {G : source.Ghosts S} where
   counts_off : (script left bytes : List ℕ) (now new : LineReader S G) → rest now ≡ Some left → taken now + length left ≡ length (unread now) + length script
       → TakesOff now new bytes
       → (left' : List ℕ) × (rest new ≡ Some left') × (left ≡ bytes ++ left') × (taken new + length left' ≡ length (unread new) + length script)
-          × (length (unread new) ≤ length left')
+      × (length (unread new) ≤ length left')
   counts_off script left bytes now new told count off =
       let at = behind_told bytes left (rest new) (sym off.front ∙ told) in
       let long = ap length at.2 in
@@ -178,7 +178,7 @@ line_at End bytes left ended not_end at = absurd (not_end refl)
 whole_line : (took : List ℕ) (first : State) (written : List ℕ) (state state' : State) (line : Line) (text bytes : List ℕ) (behind : Option (List ℕ))
     (ended ended' : Bool)
     → (IsTrue ended ⊎ AreWhole took first written state) → (IsTrue ended → ⊥) → IsLineAt LINE_LIMIT line bytes behind ended'
-        → text ≡ reply_text state.space (reply state line) → state' ≡ next_state state line
+    → text ≡ reply_text state.space (reply state line) → state' ≡ next_state state line
     → IsTrue ended' ⊎ AreWhole (took ++ bytes) first (written ++ text) state'
 whole_line took first written state state' line text bytes behind ended ended' (inl end) not_ended how replies goes = absurd (not_ended end)
 whole_line took first written state state' line text bytes behind ended ended' (inr whole) not_ended (piece, none, is, inr last) replies goes = inl last.3
@@ -224,7 +224,7 @@ stopped_text : (e : EdgeError) (first : State) (script written left' : List ℕ)
     → WritesPrefix old new (play first script) → new ≡ with_suffix old written → reads.HasLineCause (Err e) before now total (length unread)
     → with_prefix unread behind ≡ Some left' → total + length left' ≡ length unread + length script
     → (e ≡ edge.Memory → ⊥) → (took : List ℕ) × (script ≡ took ++ left') × (play_ended first took ≡ written)
-        → WritesReplies (stopped_by e) first script behind old new
+    → WritesReplies (stopped_by e) first script behind old new
 stopped_text edge.ReadFault first script written left' old new behind unread before now total front wrote cause told count is (took, split, text) =
     let none : unread ≡ [] = nothing_unread unread cause.3 in
     let left : behind ≡ Some left' = sym (with_prefix-nil behind) ∙ ap (λ xs. with_prefix xs behind) (sym none) ∙ told in
@@ -242,9 +242,10 @@ stopped_cause : (e : EdgeError) (o : Outside) (between total : ℕ) (unread : Li
     → HasCause (stopped_by e) o
 stopped_cause edge.ReadFault o between total unread grew sink disk cause count =
     (record { source = omega (arith, grew, cause.0); sink = sink; disk = disk }, HasRisen-later o.source.before between o.source.now grew cause.1)
-stopped_cause edge.InputLimit o between total unread grew sink disk cause count =
-    (record { source = omega (arith, grew, cause.0); sink = sink; disk = disk },
-        IfSome-from o.input (λ script is. let c = count script is in omega (arith, cause.1, cause.2, c.1, c.2)))
+stopped_cause edge.InputLimit o between total unread grew sink disk cause count = (
+  record { source = omega (arith, grew, cause.0); sink = sink; disk = disk },
+  IfSome-from o.input (λ script is. let c = count script is in omega (arith, cause.1, cause.2, c.1, c.2)),
+)
 stopped_cause edge.Memory o between total unread grew sink disk cause count = record { source = omega (arith, grew, cause.0); sink = sink; disk = disk }
 
 none_fell_beside : (o : Outside) (counted : ℕ) → NoneFell o → NoneFell (record o { disk = record { before = counted; now = counted } })
@@ -386,9 +387,9 @@ module _ {S T : Type 0} {G : source.Ghosts S} (holds : T → State → Type 0) (
   pub GoesOn-line : (first : State) (session : T) (reader : LineReader S G) (session' : T) (now : LineReader S G) (written : List ℕ)
       (on : GoesOn holds leaves first session reader session' now written)
       → (session'' : T) (new : LineReader S G) (line : Line) (text bytes : List ℕ) → (line ≡ End → ⊥) → IsNextLine LINE_LIMIT line (rest now) (rest new)
-          → TakesOff now new bytes → (IsTrue (has_ended now) → EndsAgain (Ok line)) → IsLineAt LINE_LIMIT line bytes (rest new) (has_ended new)
+      → TakesOff now new bytes → (IsTrue (has_ended now) → EndsAgain (Ok line)) → IsLineAt LINE_LIMIT line bytes (rest new) (has_ended new)
       → text ≡ reply_text on.state.space (reply on.state line) → holds session'' (next_state on.state line) → leaves session' session'' on.state
-          → GoesOn holds leaves first session reader session'' new (written ++ text)
+      → GoesOn holds leaves first session reader session'' new (written ++ text)
   GoesOn-line first session reader session' now written on session'' new line text bytes not_end comes off after how replies held left = record {
     state = next_state on.state line;
     leads = Leads-next_state first on.state line on.leads;
@@ -426,13 +427,13 @@ module _ {S K : Type 0} (G : source.Ghosts S) (H : sink.Ghosts K) (reader : Line
   -- why the run ends with what stopped the reader
   pub cause_stopped : {T : Type 0} (disk_faults : T → ℕ) (session session' : T) → disk_faults session ≤ disk_faults session'
       → (e : EdgeError) (r : Result Line EdgeError) → r ≡ Err e → reads.HasLineCause r (faults now) (faults new) (taken new) (length (unread new))
-          → (status : Status) → status ≡ stopped_by e
+      → (status : Status) → status ≡ stopped_by e
       → HasCause status (outside_of rest faults H.faults disk_faults reader new output sink session session')
   cause_stopped disk_faults session session' disk e r failed cause status is =
       let here = subst (λ x. reads.HasLineCause x (faults now) (faults new) (taken new) (length (unread new))) failed cause in
       let outside = outside_of rest faults H.faults disk_faults reader new output sink session session' in
       let count : (script : List ℕ) → rest reader ≡ Some script → (left : List ℕ) × (taken new + length left ≡ length (unread new) + length script)
-          × (length (unread new) ≤ length left) = λ script told.
+      × (length (unread new) ≤ length left) = λ script told.
       let gone = so.gone script told in
       let off' = counts_off script gone.left bytes now new gone.told gone.count off in (off'.0, off'.3, off'.4) in
       subst (λ s. HasCause s outside) (sym is)

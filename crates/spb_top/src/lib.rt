@@ -7,7 +7,7 @@ mod top;
 mod turns;
 mod words;
 
-pub use status::{Status, code, status_line};
 pub use spb_defs::FileUse;
+pub use status::{Status, code, status_line};
 pub use top::run;
 pub use words::file_of;

@@ -13,7 +13,7 @@ and_low y k m h =
     let whole : y / 2 ^ k * 2 ^ k + y % 2 ^ k ≡ y = shr_split y k in
     let below : y % 2 ^ k < 2 ^ k = mod_below y (2 ^ k) (pow_pos k) in
     let block : bit_and (y / 2 ^ k * 2 ^ k + y % 2 ^ k) (0 * 2 ^ k + m) ≡ bit_and (y / 2 ^ k) 0 * 2 ^ k + bit_and (y % 2 ^ k) m =
-        and_block k (y / 2 ^ k) 0 (y % 2 ^ k) m below h in
+    and_block k (y / 2 ^ k) 0 (y % 2 ^ k) m below h in
     let none : bit_and (y / 2 ^ k) 0 ≡ 0 = omega (arith, and_le_r (y / 2 ^ k) 0) in
     let mask : 0 * 2 ^ k + m ≡ m = omega arith in
     let front : bit_and (y / 2 ^ k * 2 ^ k + y % 2 ^ k) (0 * 2 ^ k + m) ≡ bit_and y m = cc in
@@ -91,7 +91,7 @@ two_cut_at p e d h l mh ml apart room high low mask =
     let union_fits : bit_or (h * 2 ^ p + l) (l * 2 ^ e) < 2 ^ d = or_lt d (h * 2 ^ p + l) (l * 2 ^ e) fits low_moved in
     let wide_mask : ml < 2 ^ d = piece_fits p e d ml apart room mask in
     let masked : bit_and (h * 2 ^ d + bit_or (h * 2 ^ p + l) (l * 2 ^ e)) (mh * 2 ^ d + ml)
-        ≡ bit_and h mh * 2 ^ d + bit_and (bit_or (h * 2 ^ p + l) (l * 2 ^ e)) ml =
+    ≡ bit_and h mh * 2 ^ d + bit_and (bit_or (h * 2 ^ p + l) (l * 2 ^ e)) ml =
     and_block d h mh (bit_or (h * 2 ^ p + l) (l * 2 ^ e)) ml union_fits wide_mask in
     let shift : e ≡ (e - p) + p = omega arith in
     let past : l * 2 ^ e ≡ l * 2 ^ (e - p) * 2 ^ p + 0 = rw (ap (λ n. 2 ^ n) shift ∙ pow-add 2 (e - p) p) (omega arith) in
@@ -156,14 +156,14 @@ cut p e d (suc j) zero x m apart room count = absurd (omega arith)
 cut p e d (suc j) (suc zero) x m apart room count = absurd (omega arith)
 cut p e d (suc j) (suc (suc n)) x m apart room count =
     let above : bit_and (bit_or (pieces (p + p) (d + d) j (x / 2 ^ (p + p))) (pieces (p + p) (d + d) j (x / 2 ^ (p + p)) * 2 ^ e))
-        (pieces p d n (m / 2 ^ (p + p))) ≡ pieces p d n (bit_and (x / 2 ^ (p + p)) (m / 2 ^ (p + p))) =
+    (pieces p d n (m / 2 ^ (p + p))) ≡ pieces p d n (bit_and (x / 2 ^ (p + p)) (m / 2 ^ (p + p))) =
     cut p e d j n (x / 2 ^ (p + p)) (m / 2 ^ (p + p)) apart room (omega arith) in
     let shared : bit_and (x / 2 ^ (p + p)) (m / 2 ^ (p + p)) ≡ bit_and x m / 2 ^ (p + p) = sym (and_shr x m (p + p)) in
     let here : bit_and (bit_or (x % 2 ^ (p + p)) (x % 2 ^ (p + p) * 2 ^ e)) (two p d m) ≡ two p d (bit_and x m) = two_cut p e d x m apart room in
     let positive : 0 < 2 ^ (p + p) = pow_pos (p + p) in
     let fits : x % 2 ^ (p + p) < 2 ^ (p + p) = mod_below x (2 ^ (p + p)) positive in
     cut_above p e d (pieces (p + p) (d + d) j (x / 2 ^ (p + p))) (x % 2 ^ (p + p)) (pieces p d n (m / 2 ^ (p + p))) (two p d m) apart room fits
-        (two-below p e d m apart room)
+    (two-below p e d m apart room)
     (pieces (p + p) (d + d) (suc j) x) (pieces-one (p + p) (d + d) j x) (pieces p d (suc (suc n)) m) (pieces-two p d n m)
     ∙ ap (λ t. t * 2 ^ (d + d) + bit_and (bit_or (x % 2 ^ (p + p)) (x % 2 ^ (p + p) * 2 ^ e)) (two p d m)) (above ∙ ap (λ t. pieces p d n t) shared)
     ∙ ap (λ t. pieces p d n (bit_and x m / 2 ^ (p + p)) * 2 ^ (d + d) + t) here
@@ -214,7 +214,7 @@ joint_above p f e d b h l am lm shift apart high low mask_fits x whole m mask =
     let next : x / 2 ^ e % 2 ^ (p + p) ≡ h * 2 ^ p = rw (moved, by_moved) (mod_low (b * 2 ^ e) (p + p) (h * 2 ^ p) (omega arith)) in
     let low_union : bit_or x (x / 2 ^ e) % 2 ^ (p + p) ≡ h * 2 ^ p + l =
     or_mod x (x / 2 ^ e) (p + p) ∙ ap (λ t. bit_or t (x / 2 ^ e % 2 ^ (p + p))) lowest ∙ ap (λ t. bit_or l t) next ∙ or_comm l (h * 2 ^ p)
-        ∙ or_shifted h p l low in
+    ∙ or_shifted h p l low in
     let high_union : bit_or x (x / 2 ^ e) / 2 ^ (d + d) ≡ bit_or b (b / 2 ^ e) =
     or_shr x (x / 2 ^ e) (d + d) ∙ ap (λ t. bit_or t (x / 2 ^ e / 2 ^ (d + d))) above ∙ ap (λ t. bit_or b t) above_moved in
     joint_masked (bit_or x (x / 2 ^ e)) (p + p) (d + d) am lm (bit_or b (b / 2 ^ e)) (h * 2 ^ p + l) mask_fits (omega arith) high_union low_union m mask
@@ -234,14 +234,14 @@ joint p f e d (suc j) zero x m shift apart count = absurd (omega arith)
 joint p f e d (suc j) (suc zero) x m shift apart count = absurd (omega arith)
 joint p f e d (suc j) (suc (suc n)) x m shift apart count =
     let above : bit_and (bit_or (pieces p d n (x / 2 ^ (p + p))) (pieces p d n (x / 2 ^ (p + p)) / 2 ^ e)) (pieces (p + p) (d + d) j (m / 2 ^ (p + p)))
-        ≡ pieces (p + p) (d + d) j (bit_and (x / 2 ^ (p + p)) (m / 2 ^ (p + p))) =
+    ≡ pieces (p + p) (d + d) j (bit_and (x / 2 ^ (p + p)) (m / 2 ^ (p + p))) =
     joint p f e d j n (x / 2 ^ (p + p)) (m / 2 ^ (p + p)) shift apart (omega arith) in
     let shared : bit_and (x / 2 ^ (p + p)) (m / 2 ^ (p + p)) ≡ bit_and x m / 2 ^ (p + p) = sym (and_shr x m (p + p)) in
     let piece : 0 < 2 ^ p = pow_pos p in
     let whole : bit_and (x / 2 ^ p % 2 ^ p * 2 ^ p + x % 2 ^ p) (m % 2 ^ (p + p)) ≡ bit_and x m % 2 ^ (p + p) =
     ap (λ t. bit_and t (m % 2 ^ (p + p))) (sym (mod-pow-add x p p)) ∙ and_first x m (p + p) in
     joint_above p f e d (pieces p d n (x / 2 ^ (p + p))) (x / 2 ^ p % 2 ^ p) (x % 2 ^ p) (pieces (p + p) (d + d) j (m / 2 ^ (p + p))) (m % 2 ^ (p + p))
-        shift apart
+    shift apart
     (mod_below (x / 2 ^ p) (2 ^ p) piece) (mod_below x (2 ^ p) piece) (mod_below m (2 ^ (p + p)) (pow_pos (p + p)))
     (pieces p d (suc (suc n)) x) (pieces-two p d n x) (pieces (p + p) (d + d) (suc j) m) (pieces-one (p + p) (d + d) j m)
     ∙ ap (λ t. t * 2 ^ (d + d) + bit_and (x / 2 ^ p % 2 ^ p * 2 ^ p + x % 2 ^ p) (m % 2 ^ (p + p))) (above ∙ ap (λ t. pieces (p + p) (d + d) j t) shared)
@@ -277,7 +277,7 @@ gathered-mod n (suc w) c k =
     let level : w + 1 ≡ suc w = omega arith in
     let parts = gathered_parts n (w + c) k in
     let split : gathered n (suc (w + c)) k % 2 ^ (w + 1) ≡ (gathered n (suc (w + c)) k / 2 ^ 1 % 2 ^ w) * 2 ^ 1 + gathered n (suc (w + c)) k % 2 ^ 1 =
-        mod-pow-add (gathered n (suc (w + c)) k) w 1 in
+    mod-pow-add (gathered n (suc (w + c)) k) w 1 in
     let upper : gathered n (suc (w + c)) k / 2 ^ 1 % 2 ^ w ≡ gathered n w (k / 2 ^ n) = ap (λ t. t % 2 ^ w) parts.0 ∙ gathered-mod n w c (k / 2 ^ n) in
     ap (λ t. gathered n t k % 2 ^ suc w) count ∙ ap (λ t. gathered n (suc (w + c)) k % 2 ^ t) (sym level) ∙ split
     ∙ ap (λ t. t * 2 ^ 1 + gathered n (suc (w + c)) k % 2 ^ 1) upper ∙ ap (λ t. gathered n w (k / 2 ^ n) * 2 ^ 1 + t) parts.1 ∙ gathered_turned n w k
@@ -287,7 +287,7 @@ pub first_mask : (n j k m : ℕ) → 1 ≤ n → bit_and k (pieces 1 n j m) ≡ 
 first_mask n zero k m some = first_none n k m
 first_mask n (suc j) k m some =
     let above : bit_and (k / 2 ^ n) (pieces 1 n j (m / 2 ^ 1)) ≡ pieces 1 n j (bit_and (gathered n j (k / 2 ^ n)) (m / 2 ^ 1)) =
-        first_mask n j (k / 2 ^ n) (m / 2 ^ 1) some in
+    first_mask n j (k / 2 ^ n) (m / 2 ^ 1) some in
     let bit : m % 2 ^ 1 < 2 ^ 1 = omega arith in
     let fewer : 2 ^ 1 ≤ 2 ^ n = pow-le-pow_right {n = 2} (omega arith) some in
     let next : gathered n (suc j) k / 2 ^ 1 ≡ gathered n j (k / 2 ^ n) = (gathered_parts n j k).0 in
@@ -323,7 +323,7 @@ pieces-small p d (suc j) x some small =
     let lowest : x % 2 ^ p ≡ x = ap (λ t. t % 2 ^ p) (sym alone) ∙ mod_low 0 p x small in
     let none : x / 2 ^ p ≡ 0 = ap (λ t. t / 2 ^ p) (sym alone) ∙ shr_high 0 p x small in
     pieces-one p d j x ∙ ap (λ t. pieces p d j t * 2 ^ d + x % 2 ^ p) none ∙ ap (λ t. t * 2 ^ d + x % 2 ^ p) (pieces-zero p d j)
-        ∙ ap (λ t. 0 * 2 ^ d + t) lowest ∙ last x (2 ^ d)
+    ∙ ap (λ t. 0 * 2 ^ d + t) lowest ∙ last x (2 ^ d)
 
 -- no pieces have no bits
 touch_none : (p x : ℕ) → pieces p p zero x ≡ x % 2 ^ (0 * p)

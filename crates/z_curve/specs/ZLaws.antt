@@ -33,7 +33,7 @@ unfolding z_key
 z_key-below zero v = pow_pos (length v * zero)
 z_key-below (suc b) v =
     let above : z_key b (halves v) < 2 ^ (length v * b) =
-        subst (λ n. z_key b (halves v) < 2 ^ (n * b)) (length-map v (λ x. x / 2)) (z_key-below b (halves v)) in
+    subst (λ n. z_key b (halves v) < 2 ^ (n * b)) (length-map v (λ x. x / 2)) (z_key-below b (halves v)) in
     let row : z_key b (halves v) * 2 ^ length v + low_bits v < 2 ^ length v * 2 ^ (length v * b) =
     mul-add-lt (z_key b (halves v)) (2 ^ length v) (low_bits v) (2 ^ (length v * b)) above (low_bits-below v) in
     omega (arith, row, group_more (length v) b)

@@ -44,7 +44,12 @@ fn make(words: &ArgMatches<'_>) -> Option<Asked>
     let kind = word(words, "kind")?.as_bytes();
     let parameters = words_from(words, "parameters")?;
     let space = space(kind, parameters)?;
-    Some(Asked::Make { curve, pivots, cap, space })
+    Some(Asked::Make {
+        curve,
+        pivots,
+        cap,
+        space,
+    })
 }
 
 /// The trial that is asked for.

@@ -8,6 +8,8 @@ returns-in-Some-cut-3 c =
     let second = length-word c.in-Some.rest.now c.in-Some-cut.first.now c.in-Some-cut.rest.now c.in-Some-cut.ensures in
     let third = length-word c.in-Some-cut.rest.now c.in-Some-cut-2.second.now c.in-Some-cut-2.rest.now c.in-Some-cut-2.ensures in
     let fourth = length-word c.in-Some-cut-2.rest.now c.in-Some-cut-3.field-0.0.now c.in-Some-cut-3.field-0.1.now c.in-Some-cut-3.ensures in
-    let more = length-words c.in-Some-cut-3.field-0.1.now in
-    (λ e. absurd (omega (arith, first, second, third, fourth, more, e)), λ e. absurd (omega (arith, first, second, third, fourth, more, e)),
-        λ e. absurd (omega (arith, first, second, third, fourth, more, e)))
+    let more = length-words c.in-Some-cut-3.field-0.1.now in (
+      λ e. absurd (omega (arith, first, second, third, fourth, more, e)),
+      λ e. absurd (omega (arith, first, second, third, fourth, more, e)),
+      λ e. absurd (omega (arith, first, second, third, fourth, more, e)),
+    )

@@ -26,15 +26,15 @@ loop-t-preserved g c =
     let bits : c.bits_at.result ≡ lanes 1 n (λ j. bit_at (get_or v j 0) u) =
     c.bits_at.ensures.bits (λ j. get_or v j 0) (λ j l. omega (arith, lane, c.requires.below j 0 (omega (arith, l, c.requires.length)))) c.packed-all.ensures in
     let next : (c.loop-t.key * 2 ^ n + c.group_to-group.result) * 2 ^ (n * u)
-        + key_left n v u c.walk_state-next_entry.result.1 c.walk_state-next_entry.result.2 ≡ total =
+    + key_left n v u c.walk_state-next_entry.result.1 c.walk_state-next_entry.result.2 ≡ total =
     key_next n u c.loop-t.entry c.loop-t.turn c.loop-t.key total c.bits_at.result c.group_to-group.result
     c.walk_state-next_entry.result.1 c.walk_state-next_entry.result.2 v
     bits c.group_to-group.ensures.group c.walk_state-next_entry.ensures.next_entry c.walk_state-next_entry.ensures.next_turn
     (subst (λ t. c.loop-t.key * 2 ^ (n * t) + key_left n v t c.loop-t.entry c.loop-t.turn ≡ total) up c.loop-t.invariant.2) in
     let small : c.loop-t.key * 2 ^ n + c.group_to-group.result ≤ total =
-        at_most (c.loop-t.key * 2 ^ n + c.group_to-group.result) (2 ^ (n * u)) _ total (pow_pos (n * u)) next in
+    at_most (c.loop-t.key * 2 ^ n + c.group_to-group.result) (2 ^ (n * u)) _ total (pow_pos (n * u)) next in
     let fits : c.loop-t.key * 2 ^ n < 18446744073709551616 =
-        omega (arith, small, key_left-lt n c.args.b v c.requires.axes.0 c.requires.axes.1 c.requires.bits.1) in
+    omega (arith, small, key_left-lt n c.args.b v c.requires.axes.0 c.requires.axes.1 c.requires.bits.1) in
     let joined : bit_or (c.loop-t.key * 2 ^ n % 18446744073709551616) c.from.result ≡ c.loop-t.key * 2 ^ n + c.group_to-group.result =
     ap (λ a. bit_or a c.from.result) (small_mod (c.loop-t.key * 2 ^ n) 18446744073709551616 fits)
     ∙ ap (bit_or (c.loop-t.key * 2 ^ n)) c.from.ensures

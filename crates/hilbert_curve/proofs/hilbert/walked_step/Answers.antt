@@ -25,7 +25,7 @@ loop-t-preserved g c =
       step_next n u c.loop-t.entry c.loop-t.turn c.args.key c.group_in-group.result c.walk_state-bits.result.0
           c.walk_state-bits.result.1 c.walk_state-bits.result.2 c.loop-t.found c.step_or-found.result total
           c.group_in-group.ensures.group c.walk_state-bits.ensures.bits c.step_or-found.ensures c.walk_state-bits.ensures.next_entry
-              c.walk_state-bits.ensures.next_turn
+          c.walk_state-bits.ensures.next_turn
           (subst (λ t. step_found n t c.loop-t.entry c.loop-t.turn (c.args.key % 2 ^ (n * t)) c.loop-t.found ≡ total) up c.loop-t.invariant.2),
     )
 

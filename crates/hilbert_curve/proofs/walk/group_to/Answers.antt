@@ -13,4 +13,4 @@ unfolding group_of
 returns-clause-group g c =
     c.from_gray.ensures.number
     ∙ ap (ungray g.row.N) (c.turned_left.ensures.turned
-        ∙ turned_off_by g.row.N c.requires.axes.0 (bit_xor c.args.bits c.args.entry) c.args.turn c.requires.state.1)
+    ∙ turned_off_by g.row.N c.requires.axes.0 (bit_xor c.args.bits c.args.entry) c.args.turn c.requires.state.1)

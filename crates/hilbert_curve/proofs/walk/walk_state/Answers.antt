@@ -16,13 +16,13 @@ turned_left-requires-2-clause-bits g c =
 pub overflow_add-result : goal.overflow_add-result
 overflow_add-result g c =
     let small : c.row_of-row.result.direction < g.row.N =
-        subst (λ x. x < g.row.N) (sym c.row_of-row.ensures.direction) (direction-lt g.row.N c.args.group c.requires.axes.0) in
+    subst (λ x. x < g.row.N) (sym c.row_of-row.ensures.direction) (direction-lt g.row.N c.args.group c.requires.axes.0) in
     omega (arith, small, c.requires.axes, c.requires.state)
 
 pub overflow_add-result-2 : goal.overflow_add-result-2
 overflow_add-result-2 g c =
     let small : c.row_of-row.result.direction < g.row.N =
-        subst (λ x. x < g.row.N) (sym c.row_of-row.ensures.direction) (direction-lt g.row.N c.args.group c.requires.axes.0) in
+    subst (λ x. x < g.row.N) (sym c.row_of-row.ensures.direction) (direction-lt g.row.N c.args.group c.requires.axes.0) in
     omega (arith, small, c.requires.axes, c.requires.state)
 
 pub returns-clause-bits : goal.returns-clause-bits

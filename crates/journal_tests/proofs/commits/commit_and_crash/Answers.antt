@@ -9,7 +9,7 @@ returns c = record {
   either = λ marks home stands closed.
       let same : c.in_ok-disk.disk.held.image ≡ c.args.image.now = ap (λ d. d.held.image) c.in_ok-disk.ensures in
       let run = c.commit_page.ensures.any_moment refl refl (nothing_pending c.in_ok-disk.disk c.args.image.now c.args.failing.now 16 8192 c.in_ok-disk.ensures)
-          marks home
+      marks home
       (subst (λ (i : List ℕ). RecoversTo 90 i marks home) (sym same) stands) (ap has_open_gate same ∙ closed) in
       IfOk-weaker c.after_crash.result _ _ (λ bytes left. run.each bytes (inl left)) c.after_crash.ensures.may_leave;
 }

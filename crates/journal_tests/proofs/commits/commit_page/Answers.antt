@@ -15,7 +15,7 @@ returns g c = record {
       let of_pages : staged_of c.stage.new.self ≡ pages = c.in-Ok-stage.ensures.stages.0 ∙ ap (λ old. with_page old 86 c.args.page.now) c.in-Ok.ensures.none in
       let run : CrashesLeaveOnly K.moment K.crash_states_since c.args.disk.now c.into_inner-disk.result.now (IsBeforeOrAfter 90 pages marks home) =
       from_start K.is_known K.knows_crashes K.image K.crash_states K.moment K.crash_states_since c.args.disk.now (disk_of c.stage.new.self)
-          (disk_of c.commit.new.self) c.into_inner-disk.result.now
+      (disk_of c.commit.new.self) c.into_inner-disk.result.now
       90 (total_of c.stage.new.self) pages (staged_of c.stage.new.self) of_disk of_total of_pages c.into_inner-disk.ensures.disk c.commit.ensures.any_moment
       tells crashes only marks home stands closed in
       search (rules, run);

@@ -13,12 +13,12 @@ loop-i-preserved c =
     let others = length-components-div c.args.b.now in
     let s : Steps c.component-x.result c.component-y.result c.from-i.result c.from-j.result c.from-common.result =
     steps c.component-x.result c.component-y.result c.from-i.result c.from-j.result c.from-common.result c.from-i.ensures c.from-j.ensures
-        c.from-common.ensures in
+    c.from-common.ensures in
     let few = counted c.component-x.result c.component-y.result c.from-i.result c.from-j.result c.from-common.result s in
     let x : c.component-x.result ≡ get_or (components c.args.a.now) c.loop-i.i 0 = c.component-x.ensures in
     let y : c.component-y.result ≡ get_or (components c.args.b.now) c.loop-i.j 0 = c.component-y.ensures in
     let t : Steps (get_or (components c.args.a.now) c.loop-i.i 0) (get_or (components c.args.b.now) c.loop-i.j 0)
-        c.from-i.result c.from-j.result c.from-common.result =
+    c.from-i.result c.from-j.result c.from-common.result =
     subst (λ (z : ℕ). Steps (get_or (components c.args.a.now) c.loop-i.i 0) z c.from-i.result c.from-j.result c.from-common.result) y
     (subst (λ (z : ℕ). Steps z c.component-y.result c.from-i.result c.from-j.result c.from-common.result) x s) in
     record {

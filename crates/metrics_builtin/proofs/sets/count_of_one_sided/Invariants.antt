@@ -12,7 +12,7 @@ invariant-loop-i l = record {
   few_others : l.common ≤ l.j;
   counted : (universe most : ℕ) → IsRisingWithin universe most (components l.a) → IsRisingWithin universe most (components l.b)
       → set_dist universe (drop l.i (components l.a)) (drop l.j (components l.b)) + l.i + l.j
-          ≡ set_dist universe (components l.a) (components l.b) + 2 * l.common;
+      ≡ set_dist universe (components l.a) (components l.b) + 2 * l.common;
 }
 
 abbrev pub decreases-loop-i : goal.decreases-loop-i

@@ -33,14 +33,14 @@ returns-then-element-least c =
     refuted _ (λ v.
     let set = elements-IsSubset c.args.universe c.args.most c.args.object.now (omega arith) v in
     falls (components c.args.object.now) c.loop-place.place c.loop-place.least (set.rising) (omega (arith, length-components-div c.args.object.now))
-        c.loop-place.invariant.first c.loop-place.invariant.last (omega arith))
+    c.loop-place.invariant.first c.loop-place.invariant.last (omega arith))
 
 pub returns-then-element-universe : goal.returns-then-element-universe
 returns-then-element-universe c =
     refuted _ (λ v.
     let set = elements-IsSubset c.args.universe c.args.most c.args.object.now (omega arith) v in
     let inside : get_or (components c.args.object.now) c.loop-place.place 0 < c.args.universe =
-        set.within c.loop-place.place 0 (omega (arith, length-components-div c.args.object.now)) in
+    set.within c.loop-place.place 0 (omega (arith, length-components-div c.args.object.now)) in
     omega arith)
 
 pub returns : goal.returns
@@ -49,7 +49,7 @@ returns c =
     let ended : length (components c.args.object.now) ≤ c.loop-place.place = omega arith in
     let few : length (components c.args.object.now) ≤ c.args.most = omega arith in
     confirmed _ (IsSubset-components c.args.universe c.args.most c.args.object.now (length c.args.object.now / 4) (omega arith)
-        (λ k. (c.type_inv.object k).fits) (record {
+    (λ k. (c.type_inv.object k).fits) (record {
       rising = λ k h. c.loop-place.invariant.rising k (omega arith);
       within = All-from_get_or (λ x. x < c.args.universe) (components c.args.object.now) 0 (λ k h. c.loop-place.invariant.within k (omega arith));
       few = few;

@@ -6,14 +6,17 @@ use Rattle.metrics_builtin.proofs.strings.count_of_differences.Goals as goal
 pub overflow_add-count : goal.overflow_add-count
 overflow_add-count c =
     let one : c.from-count.result ≡ differs (get_or c.args.a.now c.loop-i.i 0) (get_or c.args.b.now c.loop-i.i 0) = c.from-count.ensures
-        ∙ from_bool-cond (not (get_or c.args.a.now c.loop-i.i 0 == get_or c.args.b.now c.loop-i.i 0)) in
-    omega (arith, hamming_dist-drop c.args.a.now c.args.b.now c.loop-i.i (omega arith) (omega arith),
-        hamming_dist-le c.args.a.now c.args.b.now c.requires.alike)
+    ∙ from_bool-cond (not (get_or c.args.a.now c.loop-i.i 0 == get_or c.args.b.now c.loop-i.i 0)) in
+    omega (
+      arith,
+      hamming_dist-drop c.args.a.now c.args.b.now c.loop-i.i (omega arith) (omega arith),
+      hamming_dist-le c.args.a.now c.args.b.now c.requires.alike,
+    )
 
 pub loop-i-preserved : goal.loop-i-preserved
 loop-i-preserved c =
     let one : c.from-count.result ≡ differs (get_or c.args.a.now c.loop-i.i 0) (get_or c.args.b.now c.loop-i.i 0) = c.from-count.ensures
-        ∙ from_bool-cond (not (get_or c.args.a.now c.loop-i.i 0 == get_or c.args.b.now c.loop-i.i 0)) in
+    ∙ from_bool-cond (not (get_or c.args.a.now c.loop-i.i 0 == get_or c.args.b.now c.loop-i.i 0)) in
     omega (arith, hamming_dist-drop c.args.a.now c.args.b.now c.loop-i.i (omega arith) (omega arith))
 
 pub returns : goal.returns

@@ -28,7 +28,7 @@ invariant-loop-first g l =
       light : l.seen.measured + l.seen.opened + sum_by (weight_of nodes) (items_of l.queue) ≤ sum_by (weight_of nodes) items;
       looked : AreBounds dist object_at l.fn.q nodes is_sound items
           → Looked dist object_at l.fn.q nodes is_sound l.fn.best.most cs l.seen.measured (least_of l.best) (items_of l.queue) l.seen.opened
-              (nodes_in_reach dist object_at l.fn.q nodes l.fn.best.most items);
+          (nodes_in_reach dist object_at l.fn.q nodes l.fn.best.most items);
       logged : AreBounds dist object_at l.fn.q nodes is_sound items
           → LogExtends (g.R.Ruler.log l.fn.ruler) (g.R.Ruler.log l.ruler) (each_with l.fn.q (objects_at object_at (take l.seen.measured cs)));
     }

@@ -19,4 +19,4 @@ loop-place-preserved c =
     ∙ ap (λ items. items ++ as_waiting this ∷ []) c.loop-place.invariant
     ∙ sym (map-append as_waiting passed (this ∷ []))
     ∙ ap (map as_waiting) (candidates_for-more c.args.asked.now c.args.rows.now place c.lower.result row c.loop-place-test.true c.index-rows-place.is
-        c.lower.ensures)
+    c.lower.ensures)

@@ -22,13 +22,13 @@ too_great word i value inside d e great =
 pub returns-then-not-is_ascii_digit : goal.returns-then-not-is_ascii_digit
 returns-then-not-is_ascii_digit c = λ digits.
     no_digit c.args.word.now c.loop-b.b-index (when_false (IsAsciiDigit (get_or c.args.word.now c.loop-b.b-index 0))
-        (IsNotAsciiDigit (get_or c.args.word.now c.loop-b.b-index 0)) c.if-not-is_ascii_digit.true c.is_ascii_digit.ensures.cases) c.loop-b-test.true digits
+    (IsNotAsciiDigit (get_or c.args.word.now c.loop-b.b-index 0)) c.if-not-is_ascii_digit.true c.is_ascii_digit.ensures.cases) c.loop-b-test.true digits
 
 pub returns-in_err-checked_mul : goal.returns-in_err-checked_mul
 returns-in_err-checked_mul c =
     let d : IsInRange 48 57 (get_or c.args.word.now c.loop-b.b-index 0) =
-        when_true (IsAsciiDigit (get_or c.args.word.now c.loop-b.b-index 0)) (IsNotAsciiDigit (get_or c.args.word.now c.loop-b.b-index 0))
-        c.if-not-is_ascii_digit.false c.is_ascii_digit.ensures.cases in
+    when_true (IsAsciiDigit (get_or c.args.word.now c.loop-b.b-index 0)) (IsNotAsciiDigit (get_or c.args.word.now c.loop-b.b-index 0))
+    c.if-not-is_ascii_digit.false c.is_ascii_digit.ensures.cases in
     let low = d.0 in
     let past : c.loop-b.value * 10 < 2 ^ 64 → ⊥ = c.in_err-checked_mul.ensures in
     let great : 2 ^ 64 + 48 ≤ c.loop-b.value * 10 + get_or c.args.word.now c.loop-b.b-index 0 = grind arith in
@@ -37,21 +37,21 @@ returns-in_err-checked_mul c =
 pub returns-in_err-value : goal.returns-in_err-value
 returns-in_err-value c =
     let d : IsInRange 48 57 (get_or c.args.word.now c.loop-b.b-index 0) =
-        when_true (IsAsciiDigit (get_or c.args.word.now c.loop-b.b-index 0)) (IsNotAsciiDigit (get_or c.args.word.now c.loop-b.b-index 0))
-        c.if-not-is_ascii_digit.false c.is_ascii_digit.ensures.cases in
+    when_true (IsAsciiDigit (get_or c.args.word.now c.loop-b.b-index 0)) (IsNotAsciiDigit (get_or c.args.word.now c.loop-b.b-index 0))
+    c.if-not-is_ascii_digit.false c.is_ascii_digit.ensures.cases in
     let low = d.0 in
     let past : c.in_ok-checked_mul.field-0 + c.from.result < 2 ^ 64 → ⊥ = c.in_err-value.ensures in
     let ten : c.in_ok-checked_mul.field-0 ≡ c.loop-b.value * 10 = c.in_ok-checked_mul.ensures.1 in
     let digit = c.from.ensures in
     let great : 2 ^ 64 + 48 ≤ c.loop-b.value * 10 + get_or c.args.word.now c.loop-b.b-index 0 = grind arith in
     rw c.from_residual-in_err-value.ensures
-        (λ digits. too_great c.args.word.now c.loop-b.b-index c.loop-b.value c.loop-b-test.true d c.loop-b.invariant.value great)
+    (λ digits. too_great c.args.word.now c.loop-b.b-index c.loop-b.value c.loop-b-test.true d c.loop-b.invariant.value great)
 
 pub loop-b-preserved : goal.loop-b-preserved
 loop-b-preserved c =
     let d : IsInRange 48 57 (get_or c.args.word.now c.loop-b.b-index 0) =
-        when_true (IsAsciiDigit (get_or c.args.word.now c.loop-b.b-index 0)) (IsNotAsciiDigit (get_or c.args.word.now c.loop-b.b-index 0))
-        c.if-not-is_ascii_digit.false c.is_ascii_digit.ensures.cases in
+    when_true (IsAsciiDigit (get_or c.args.word.now c.loop-b.b-index 0)) (IsNotAsciiDigit (get_or c.args.word.now c.loop-b.b-index 0))
+    c.if-not-is_ascii_digit.false c.is_ascii_digit.ensures.cases in
     let low = d.0 in
     let more = value-more c.args.word.now c.loop-b.b-index c.loop-b-test.true d in
     let ten : c.in_ok-checked_mul.field-0 ≡ c.loop-b.value * 10 = c.in_ok-checked_mul.ensures.1 in

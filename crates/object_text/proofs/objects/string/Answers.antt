@@ -22,7 +22,7 @@ pub loop-place-preserved : goal.loop-place-preserved
 loop-place-preserved c =
     let long : length c.args.text.now ≡ 2 * c.args.len = grind arith in
     goes_on c.args.text.now c.loop-place.object.items c.push.new.self.items c.loop-place.place c.in_ok-high.high c.in_ok-low.low c.loop-place.invariant
-        (omega arith)
+    (omega arith)
     c.in_ok-high.ensures.0 c.in_ok-low.ensures.0 c.in_ok-high.ensures.1 c.in_ok-low.ensures.1 c.push.ensures.items
 
 pub returns : goal.returns

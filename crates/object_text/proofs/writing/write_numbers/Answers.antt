@@ -19,7 +19,7 @@ pub loop-place-preserved : goal.loop-place-preserved
 loop-place-preserved c =
     let many = length-components-div c.args.object.now in
     goes_on c.args.text.now c.loop-place.text c.write_number-in-loop-place.new.text (components c.args.object.now)
-        c.loop-place.place c.component-in-loop-place.result
+    c.loop-place.place c.component-in-loop-place.result
     c.loop-place.invariant c.in_ok-write_number-2.ensures c.component-in-loop-place.ensures (omega arith) (omega arith)
 
 pub returns : goal.returns

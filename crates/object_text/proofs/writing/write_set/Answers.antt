@@ -13,4 +13,4 @@ pub returns : goal.returns
 returns c =
     let some : length c.args.object.now ≡ 0 → ⊥ = grind (arith, nat_tests) in
     subst (λ (t : List ℕ). OnOk c.write_numbers.result (c.write_numbers.new.text ≡ c.args.text.now ++ t)) (set_text-some c.args.object.now (grind arith))
-        c.write_numbers.ensures
+    c.write_numbers.ensures

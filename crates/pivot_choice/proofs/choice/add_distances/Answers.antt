@@ -40,15 +40,15 @@ loop-place-preserved g c =
     let as_before : get_or c.loop-place.worths place 0 ≡ get_or old place 0 = kept.ahead place (omega arith) in
     let some : 0 < get_or old place 0 = omega arith in
     let from : c.as_slice-from.result.now ≡ sample_at samples c.args.chosen = c.as_slice-from.ensures ∙ c.index-sample-chosen.is
-        ∙ get_or_default samples c.args.chosen _ _ c.requires.within in
+    ∙ get_or_default samples c.args.chosen _ _ c.requires.within in
     let object : c.as_slice.result.now ≡ sample_at samples place = c.as_slice.ensures ∙ c.index-sample-place.is
-        ∙ get_or_default samples place _ _ c.loop-place-test.true in
+    ∙ get_or_default samples place _ _ c.loop-place-test.true in
     let measured : c.from.result ≡ dist (sample_at samples c.args.chosen) (sample_at samples place) =
     c.from.ensures ∙ c.measure.ensures.distance ∙ ap (λ k. g.R.Ruler.dist k c.as_slice-from.result.now c.as_slice.result.now) kept.kind_is
-        ∙ ap (λ a. dist a c.as_slice.result.now) from ∙ ap (dist (sample_at samples c.args.chosen)) object in
+    ∙ ap (λ a. dist a c.as_slice.result.now) from ∙ ap (dist (sample_at samples c.args.chosen)) object in
     let sum : worth ≡ get_or old place 0 + dist (sample_at samples c.args.chosen) (sample_at samples place) = omega arith in
     let here : worth ≡ updated_worth dist samples c.args.chosen place (get_or old place 0) = sum
-        ∙ sym (updated_worth-some dist samples c.args.chosen place (get_or old place 0) some) in
+    ∙ sym (updated_worth-some dist samples c.args.chosen place (get_or old place 0) some) in
     let count = count-some old place (omega arith) some in
     let visits = open-some old samples (sample_at samples c.args.chosen) place some in
     let low : c.from.result < 4294967296 = omega (arith, c.measure.type_inv) in

@@ -12,7 +12,7 @@ pub returns-then-n-eq0-clause-places : goal.returns-then-n-eq0-clause-places
 returns-then-n-eq0-clause-places g c =
     let dist = g.R.Ruler.dist (g.R.Ruler.kind c.args.ruler.now) in
     let none : [] ≡ chosen_places dist c.args.sample.now c.args.n = sym (chosen-none dist c.args.sample.now)
-        ∙ ap (chosen_places dist c.args.sample.now) (sym c.if-n-eq0.true) in
+    ∙ ap (chosen_places dist c.args.sample.now) (sym c.if-n-eq0.true) in
     IfOk-weaker _ _ _ (λ (places : List ℕ) (e : places ≡ []). e ∙ none) c.of.ensures
 
 pub returns-then-n-eq0-clause-distinct : goal.returns-then-n-eq0-clause-distinct
@@ -25,7 +25,7 @@ returns-clause-within g c =
     let samples = c.args.sample.now in
     let within = chosen-within dist samples c.args.n c.requires.enough in
     IfOk-weaker _ _ _ (λ (places : List ℕ) (e : places ≡ chosen_places dist samples c.args.n). subst (All (λ (place : ℕ). place < length samples)) (sym e)
-        within) c.choose_by_worth.ensures.places
+    within) c.choose_by_worth.ensures.places
 
 pub returns-clause-length : goal.returns-clause-length
 returns-clause-length g c =
@@ -44,4 +44,4 @@ returns-clause-farthest g c =
     let dist = g.R.Ruler.dist (g.R.Ruler.kind c.args.ruler.now) in
     let samples = c.args.sample.now in
     IfOk-weaker _ _ _ (λ (places : List ℕ) (e : places ≡ chosen_places dist samples c.args.n).
-        ((c.pivots_are_farthest_first.ensures dist samples c.args.n places c.requires.enough).0 e).farthest) c.choose_by_worth.ensures.places
+    ((c.pivots_are_farthest_first.ensures dist samples c.args.n places c.requires.enough).0 e).farthest) c.choose_by_worth.ensures.places

@@ -9,7 +9,7 @@ use Rattle.pivot_choice.proofs.choice.choose_by_worth.Goals as goal
 pub loop-init : goal.loop-init
 loop-init g c =
     let start = Choosing-start (g.R.Ruler.dist (g.R.Ruler.kind c.args.ruler.now))
-        c.args.sample.now c.args.worths.now c.in_ok-places.places c.best_place-chosen.result
+    c.args.sample.now c.args.worths.now c.in_ok-places.places c.best_place-chosen.result
     (omega (arith, c.requires.some, c.requires.enough)) c.requires.worths c.best_place-chosen.ensures.first c.in_ok-places.ensures in
     (0, refl, start, refl, omega arith, LogExtends-nothing _)
 
@@ -37,9 +37,9 @@ loop-preserved g c =
     let each = λ (k : ℕ) (below : k < length c.add_distances.new.worths).
     c.add_distances.ensures.worths k below ∙ ap (λ K. updated_worth (g.R.Ruler.dist K) samples c.loop.chosen k (get_or old k 0)) kind_is in
     let next = Choosing-more dist samples before c.loop.worths c.loop.places c.loop.chosen c.add_distances.new.worths c.append.new.self
-        c.best_place-chosen-in-loop.result
+    c.best_place-chosen-in-loop.result
     choosing (omega (arith, c.requires.enough, c.loop-test.true))
-        c.add_distances.ensures.length each c.add_distances.ensures.rise c.best_place-chosen-in-loop.ensures.first c.in_ok-append.ensures.ok in
+    c.add_distances.ensures.length each c.add_distances.ensures.rise c.best_place-chosen-in-loop.ensures.first c.in_ok-append.ensures.ok in
     let count = count-pass dist samples before c.loop.worths c.loop.places c.loop.chosen choosing in
     let count_is = kept.4 in
     let visits = visits-pass dist samples before c.loop.worths c.loop.places c.loop.chosen choosing in
@@ -47,8 +47,8 @@ loop-preserved g c =
     let counts = ap (choice_evals (length samples)) counter in
     let counts_more = ap (choice_evals (length samples)) counter_more in
     let visits_more = ap (λ (n : ℕ). choice_visits dist samples n
-        ++ each_with (sample_at samples c.loop.chosen) (unchosen_among_first old samples (length samples))) (sym counter) ∙ visits
-        ∙ ap (choice_visits dist samples) counter_more in (
+    ++ each_with (sample_at samples c.loop.chosen) (unchosen_among_first old samples (length samples))) (sym counter) ∙ visits
+    ∙ ap (choice_visits dist samples) counter_more in (
       before + 1,
       counter_more,
       next,

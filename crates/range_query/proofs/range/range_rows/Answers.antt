@@ -14,12 +14,12 @@ returns-clause-answer g c =
     let bounds = bounds_hold (ruler.admitted kind) (ruler.dist kind) (g.met.R.Ruler.ruler_laws kind) c.args.pivots.now c.requires.pivots.objects in
     let all = take_all c.loop-row.row-index c.args.rows.now (omega arith) in
     let found = subst (λ (seen : List Row). PassesOver (verdict_of_row (ruler.dist kind) c.map_object-asked.result c.args.q.now c.args.r)
-        (λ (row : Row). row.id) seen c.new-found.result c.loop-row.found) all c.loop-row.invariant.found in
+    (λ (row : Row). row.id) seen c.new-found.result c.loop-row.found) all c.loop-row.invariant.found in
     range-answer (ruler.admitted kind) (ruler.dist kind) c.args.pivots.now bounds c.args.rows.now
-        (each_row (ruler.admitted kind) (ruler.dist kind) c.args.pivots.now c.args.rows.now c.requires.rows)
-        c.args.q.now c.map_object-asked.result c.args.r c.requires.query c.map_object-asked.ensures.vector
+    (each_row (ruler.admitted kind) (ruler.dist kind) c.args.pivots.now c.args.rows.now c.requires.rows)
+    c.args.q.now c.map_object-asked.result c.args.r c.requires.query c.map_object-asked.ensures.vector
     c.new-found.result c.loop-row.found c.new-found.ensures.kept c.new-found.ensures.evals c.new-found.ensures.sure found _ _ (c.from.ensures
-        ∙ c.arrange_ids.ensures) refl
+    ∙ c.arrange_ids.ensures) refl
 
 pub returns-clause-log : goal.returns-clause-log
 returns-clause-log g c =
@@ -30,9 +30,9 @@ returns-clause-log g c =
     let asked = c.map_object-asked.new.ruler in
     let now = c.loop-row.ruler in
     let measured = subst (λ (seen : List Row). MeasuresOpen (verdict_of_row (ruler.dist kind) c.map_object-asked.result c.args.q.now c.args.r)
-        (λ (row : Row). (c.args.q.now, row.object)) seen (ruler.count asked) (ruler.log asked) (ruler.count now) (ruler.log now))
-        all c.loop-row.invariant.measured in
+    (λ (row : Row). (c.args.q.now, row.object)) seen (ruler.count asked) (ruler.log asked) (ruler.count now) (ruler.log now))
+    all c.loop-row.invariant.measured in
     range-log (ruler.admitted kind) (ruler.dist kind) c.args.pivots.now bounds c.args.rows.now
-        (each_row (ruler.admitted kind) (ruler.dist kind) c.args.pivots.now c.args.rows.now c.requires.rows)
-        c.args.q.now c.map_object-asked.result c.args.r c.requires.query c.map_object-asked.ensures.vector
+    (each_row (ruler.admitted kind) (ruler.dist kind) c.args.pivots.now c.args.rows.now c.requires.rows)
+    c.args.q.now c.map_object-asked.result c.args.r c.requires.query c.map_object-asked.ensures.vector
     (ruler.log c.args.ruler.now) (ruler.count asked) (ruler.log asked) (ruler.count now) (ruler.log now) c.map_object-asked.ensures.log measured

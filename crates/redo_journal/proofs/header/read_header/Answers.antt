@@ -19,5 +19,5 @@ loop-place-preserved c =
     let far : c.loop-place.place < 80 = search rules in
     let number = number_at _ (8 + 4 * c.loop-place.place) (512 - (8 + 4 * c.loop-place.place)) _ (omega (arith, far)) c.number_in-number.ensures in
     subst (λ (items : List ℕ). HasRead c.args.total c.args.header.now c.number_in-count.result items c.number_in-number.result (c.loop-place.place + 1))
-        (sym c.push.ensures.items)
+    (sym c.push.ensures.items)
     (reads_good _ _ _ _ _ _ _ c.loop-place.invariant c.loop-place-test.true number (c.if-not-is_next.ensures.0 refl))

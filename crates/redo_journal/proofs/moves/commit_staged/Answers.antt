@@ -12,9 +12,9 @@ returns-in_err-write_and_keep-clause-any_moment g c = λ tells crashes only mark
     let few : length pages ≤ 80 = subst (λ l. length l ≤ 80) c.seal.ensures.same c.body.ensures.sound.few in
     let long : length c.body.result.now ≡ 512 * (1 + length pages) = c.body.ensures.long ∙ ap (λ l. 512 * (1 + length l)) c.seal.ensures.same in
     committed_so_far g.D.Disk.moment g.D.Disk.crash_states_since g.D.Disk.image g.D.Disk.crash_states c.args.staged.now.total pages marks home c.args.disk.now
-        c.write_and_keep.new.disk stands closed few
+    c.write_and_keep.new.disk stands closed few
     (subst (λ (m : ℕ). CrashesLeaveOnly g.D.Disk.moment g.D.Disk.crash_states_since c.args.disk.now c.write_and_keep.new.disk
-        (IsTornWrite 2048 m (g.D.Disk.image c.args.disk.now))) long (c.write_and_keep.ensures.any_moment only))
+    (IsTornWrite 2048 m (g.D.Disk.image c.args.disk.now))) long (c.write_and_keep.ensures.any_moment only))
 
 pub returns-clause-any_moment : goal.returns-clause-any_moment
 returns-clause-any_moment g c = λ tells crashes only marks home stands closed.
@@ -28,18 +28,18 @@ returns-clause-any_moment g c = λ tells crashes only marks home stands closed.
     has_body sealed sealed.header c.body.result.now start written c.body.ensures.sound (subst (λ l. 0 < length l) (sym c.seal.ensures.same) c.requires.some)
     (subst (λ (t : ℕ). 85 ≤ t) (sym c.seal.ensures.total) c.requires.least) (size ∙ ap (λ t. 512 * t) (sym c.seal.ensures.total))
     (c.seal.ensures.header ∙ ap (λ l. header_page (keys_of l)) (sym c.seal.ensures.same)) c.body.ensures.bytes c.body.ensures.long
-        (c.in_ok-write_and_keep.ensures.image tells) in
+    (c.in_ok-write_and_keep.ensures.image tells) in
     let body : HasBody total pages start written =
     subst (λ (t : ℕ). HasBody t pages start written) c.seal.ensures.total (subst (λ l. HasBody sealed.total l start written) c.seal.ensures.same as_sealed) in
     let few : length pages ≤ 80 = subst (λ l. length l ≤ 80) c.seal.ensures.same c.body.ensures.sound.few in
     let long : length c.body.result.now ≡ 512 * (1 + length pages) = c.body.ensures.long ∙ ap (λ l. 512 * (1 + length l)) c.seal.ensures.same in
     let so_far = committed_so_far g.D.Disk.moment g.D.Disk.crash_states_since g.D.Disk.image g.D.Disk.crash_states total pages marks home c.args.disk.now
-        c.write_and_keep.new.disk stands closed few
+    c.write_and_keep.new.disk stands closed few
     (subst (λ (m : ℕ). CrashesLeaveOnly g.D.Disk.moment g.D.Disk.crash_states_since c.args.disk.now c.write_and_keep.new.disk (IsTornWrite 2048 m start)) long
-        (c.write_and_keep.ensures.any_moment only)) in
+    (c.write_and_keep.ensures.any_moment only)) in
     let then = body.stands marks home stands closed in
     committed g.D.Disk.moment g.D.Disk.crash_states_since g.D.Disk.image g.D.Disk.crash_states total pages marks home c.args.disk.now c.write_and_keep.new.disk
-        c.write_and_keep-2.new.disk so_far then.0 then.1
+    c.write_and_keep-2.new.disk so_far then.0 then.1
     body.is_written (c.write_and_keep-2.ensures.any_moment (c.in_ok-write_and_keep.ensures.kept tells crashes))
 
 pub returns-clause-commits : goal.returns-clause-commits
@@ -54,7 +54,7 @@ returns-clause-commits g c = λ tells.
     has_body sealed sealed.header c.body.result.now start written c.body.ensures.sound (subst (λ l. 0 < length l) (sym c.seal.ensures.same) c.requires.some)
     (subst (λ (t : ℕ). 85 ≤ t) (sym c.seal.ensures.total) c.requires.least) (size ∙ ap (λ t. 512 * t) (sym c.seal.ensures.total))
     (c.seal.ensures.header ∙ ap (λ l. header_page (keys_of l)) (sym c.seal.ensures.same)) c.body.ensures.bytes c.body.ensures.long
-        (c.in_ok-write_and_keep.ensures.image tells) in
+    (c.in_ok-write_and_keep.ensures.image tells) in
     let body : HasBody total pages start written =
     subst (λ (t : ℕ). HasBody t pages start written) c.seal.ensures.total (subst (λ l. HasBody sealed.total l start written) c.seal.ensures.same as_sealed) in
     on_ok_weaker c.write_and_keep-2.result (commits total pages start written (g.D.Disk.image c.write_and_keep-2.new.disk) c.requires.least size body)

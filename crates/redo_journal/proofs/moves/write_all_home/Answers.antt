@@ -16,16 +16,16 @@ returns-in_err-write_home-clause-any_moment g c = λ tells only.
     let so_far = c.loop-place.invariant in
     let long = sym (g.met.D.Disk.length_is c.args.disk.now tells) ∙ c.requires.size in
     goes_on g.D.Disk.moment g.D.Disk.crash_states_since c.args.disk.now c.loop-place.disk c.write_home.new.disk _ _ (so_far.5 tells only)
-        c.write_home.ensures.time
+    c.write_home.ensures.time
     (c.write_home.ensures.crash _ _ _ long (home_within _ _ c.requires.least c.entry-n.ensures.home) (among _ _ _ _ _ c.entry-n.ensures.entry)
-        (so_far.6 tells only))
+    (so_far.6 tells only))
 
 pub returns-in_err-write_home-clause-crash : goal.returns-in_err-write_home-clause-crash
 returns-in_err-write_home-clause-crash g c = λ tells only.
     let so_far = c.loop-place.invariant in
     let long = sym (g.met.D.Disk.length_is c.args.disk.now tells) ∙ c.requires.size in
     c.write_home.ensures.crash _ _ _ long (home_within _ _ c.requires.least c.entry-n.ensures.home) (among _ _ _ _ _ c.entry-n.ensures.entry)
-        (so_far.6 tells only)
+    (so_far.6 tells only)
 
 pub loop-place-preserved : goal.loop-place-preserved
 loop-place-preserved g c =
@@ -35,10 +35,10 @@ loop-place-preserved g c =
     λ tells. sym (g.met.D.Disk.length_is c.args.disk.now tells) ∙ c.requires.size in
     let more : c.loop-place.place < length c.args.staged.now.pages = omega (arith, c.loop-place-test.true, c.count-place-end.ensures.count) in
     let home : (tells : IsTrue (g.D.Disk.is_known c.args.disk.now))
-        → AreInPlace (take (c.loop-place.place + 1) c.args.staged.now.pages) (g.D.Disk.image c.write_home.new.disk)
+    → AreInPlace (take (c.loop-place.place + 1) c.args.staged.now.pages) (g.D.Disk.image c.write_home.new.disk)
     × DiffersWithin c.args.staged.now.total (keys_of c.args.staged.now.pages) (g.D.Disk.image c.args.disk.now) (g.D.Disk.image c.write_home.new.disk) =
     λ tells. goes_home c.args.staged.now.total _ c.loop-place.place _ _ (g.D.Disk.image c.loop-place.disk)
-        _ c.args.staged.now.pages c.entry-n.ensures.entry more
+    _ c.args.staged.now.pages c.entry-n.ensures.entry more
     c.count-place-end.ensures.sound.homes within (long tells) c.entry-n.ensures.page
     (c.in_ok-write_home.ensures.image (subst IsTrue (sym so_far.1) tells)) (so_far.3 tells) (so_far.4 tells) in (
       c.write_home.ensures.disk.0.1 ∙ so_far.0,

@@ -13,10 +13,10 @@ invariant-loop-place g l =
     × (g.D.Disk.is_known l.disk ≡ g.D.Disk.is_known l.initial.disk) × (g.D.Disk.knows_crashes l.disk ≡ g.D.Disk.knows_crashes l.initial.disk)
     × (IsTrue (g.D.Disk.is_known l.initial.disk) → AreInPlace (take l.place l.staged.pages) (g.D.Disk.image l.disk))
     × (IsTrue (g.D.Disk.is_known l.initial.disk)
-        → DiffersWithin l.staged.total (keys_of l.staged.pages) (g.D.Disk.image l.initial.disk) (g.D.Disk.image l.disk))
+    → DiffersWithin l.staged.total (keys_of l.staged.pages) (g.D.Disk.image l.initial.disk) (g.D.Disk.image l.disk))
     × (IsTrue (g.D.Disk.is_known l.initial.disk) → IsDurable (g.D.Disk.image l.initial.disk) (g.D.Disk.crash_states l.initial.disk)
     → CrashesLeaveOnly g.D.Disk.moment g.D.Disk.crash_states_since l.initial.disk l.disk
-        (DiffersWithin l.staged.total (keys_of l.staged.pages) (g.D.Disk.image l.initial.disk)))
+    (DiffersWithin l.staged.total (keys_of l.staged.pages) (g.D.Disk.image l.initial.disk)))
     × (IsTrue (g.D.Disk.is_known l.initial.disk) → IsDurable (g.D.Disk.image l.initial.disk) (g.D.Disk.crash_states l.initial.disk)
     → (c : List ℕ) → g.D.Disk.crash_states l.disk c → DiffersWithin l.staged.total (keys_of l.staged.pages) (g.D.Disk.image l.initial.disk) c)
     × (IsTrue (g.D.Disk.is_known l.initial.disk) → g.D.Disk.reads l.disk ≡ g.D.Disk.reads l.initial.disk)

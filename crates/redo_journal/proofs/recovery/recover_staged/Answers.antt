@@ -13,16 +13,16 @@ returns-in_err-settle_staged-clause-any_start g c = λ tells crashes marks home 
     let same : g.D.Disk.image c.find_kept_change.new.disk ≡ g.D.Disk.image c.args.disk.now = c.find_kept_change.ensures.image tells in
     let found : ReadsChange total (Ok true) (g.D.Disk.image c.args.disk.now) c.find_kept_change.new.staged.pages =
     subst (λ (b : Bool). ReadsChange total (Ok b) (g.D.Disk.image c.args.disk.now) c.find_kept_change.new.staged.pages) c.if-branch.true
-        (c.in_ok-find_kept_change.ensures.finds tells) in
+    (c.in_ok-find_kept_change.ensures.finds tells) in
     let holds : HoldsChange c.find_kept_change.new.staged.pages (g.D.Disk.image c.find_kept_change.new.disk) = record {
       is_opened = ap has_open_gate same ∙ found.0;
       journal_is = ap journal_entries same ∙ sym found.2;
     } in
     recovered g.D.Disk.moment g.D.Disk.crash_states_since c.args.disk.now c.find_kept_change.new.disk c.settle_staged.new.disk
-        (g.D.Disk.crash_states c.args.disk.now) (λ image. RecoversTo total image marks home)
+    (g.D.Disk.crash_states c.args.disk.now) (λ image. RecoversTo total image marks home)
     c.find_kept_change.ensures.any_moment
     (subst (λ (t : ℕ). CrashesLeaveOnly g.D.Disk.moment g.D.Disk.crash_states_since c.find_kept_change.new.disk c.settle_staged.new.disk
-        (λ image. RecoversTo t image marks home)) c.find_kept_change.ensures.total
+    (λ image. RecoversTo t image marks home)) c.find_kept_change.ensures.total
     (c.settle_staged.ensures.any_moment tells_found crashes_found (c.in_ok-find_kept_change.ensures.kept tells crashes) holds marks home
     (subst (λ (t : ℕ). RecoversTo t (g.D.Disk.image c.find_kept_change.new.disk) marks home) (sym c.find_kept_change.ensures.total)
     (subst (λ (i : List ℕ). RecoversTo total i marks home) (sym same) stands))))
@@ -35,16 +35,16 @@ returns-in_ok-settle_staged-clause-any_start g c = λ tells crashes marks home s
     let same : g.D.Disk.image c.find_kept_change.new.disk ≡ g.D.Disk.image c.args.disk.now = c.find_kept_change.ensures.image tells in
     let found : ReadsChange total (Ok true) (g.D.Disk.image c.args.disk.now) c.find_kept_change.new.staged.pages =
     subst (λ (b : Bool). ReadsChange total (Ok b) (g.D.Disk.image c.args.disk.now) c.find_kept_change.new.staged.pages) c.if-branch.true
-        (c.in_ok-find_kept_change.ensures.finds tells) in
+    (c.in_ok-find_kept_change.ensures.finds tells) in
     let holds : HoldsChange c.find_kept_change.new.staged.pages (g.D.Disk.image c.find_kept_change.new.disk) = record {
       is_opened = ap has_open_gate same ∙ found.0;
       journal_is = ap journal_entries same ∙ sym found.2;
     } in
     recovered g.D.Disk.moment g.D.Disk.crash_states_since c.args.disk.now c.find_kept_change.new.disk c.settle_staged.new.disk
-        (g.D.Disk.crash_states c.args.disk.now) (λ image. RecoversTo total image marks home)
+    (g.D.Disk.crash_states c.args.disk.now) (λ image. RecoversTo total image marks home)
     c.find_kept_change.ensures.any_moment
     (subst (λ (t : ℕ). CrashesLeaveOnly g.D.Disk.moment g.D.Disk.crash_states_since c.find_kept_change.new.disk c.settle_staged.new.disk
-        (λ image. RecoversTo t image marks home)) c.find_kept_change.ensures.total
+    (λ image. RecoversTo t image marks home)) c.find_kept_change.ensures.total
     (c.settle_staged.ensures.any_moment tells_found crashes_found (c.in_ok-find_kept_change.ensures.kept tells crashes) holds marks home
     (subst (λ (t : ℕ). RecoversTo t (g.D.Disk.image c.find_kept_change.new.disk) marks home) (sym c.find_kept_change.ensures.total)
     (subst (λ (i : List ℕ). RecoversTo total i marks home) (sym same) stands))))

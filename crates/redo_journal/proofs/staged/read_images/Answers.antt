@@ -14,6 +14,6 @@ returns-clause-images g c = λ tells.
     length-take-le (length lent - 512) (drop 512 lent) (omega (arith, long, length-drop 512 lent)) ∙ omega (arith, long) in
     on_ok_weaker c.read_piece.result
     (λ read. behind_header (take 512 lent) c.read_piece.new.into _ _ (512 * c.args.count) _ (length-take-le 512 lent (omega (arith, long)))
-        (c.read_piece.ensures.filled ∙ part) size
+    (c.read_piece.ensures.filled ∙ part) size
     ∙ read ∙ ap (λ k. take k (drop 2560 (g.D.Disk.image c.args.disk.now))) part)
     (c.read_piece.ensures.data tells)

@@ -11,7 +11,7 @@ returns-in_default-clause-found c =
 pub returns-in_default-clause-others : goal.returns-in_default-clause-others
 returns-in_default-clause-others c =
     all_remaining c.args.rows.now.items c.args.id
-        (missing c.args.rows.now.items (get nat_cmp c.args.index.now) c.requires c.args.id (sym c.in_default.ensures.value))
+    (missing c.args.rows.now.items (get nat_cmp c.args.index.now) c.requires c.args.id (sym c.in_default.ensures.value))
 
 pub returns-in_default-clause-indexed : goal.returns-in_default-clause-indexed
 returns-in_default-clause-indexed c =
@@ -25,7 +25,7 @@ swap_remove-removed-requires c =
 pub returns-then-place-len-clause-found : goal.returns-then-place-len-clause-found
 returns-then-place-len-clause-found c =
     let goes : Goes c.args.rows.now.items c.swap_remove-removed.new.self.items c.in-Some.place c.swap_remove-removed.result c.args.id
-        (get nat_cmp c.args.index.now) (get nat_cmp c.remove.new.self) =
+    (get nat_cmp c.args.index.now) (get nat_cmp c.remove.new.self) =
     record {
       indexed = c.requires;
       there = sym c.in-Some.ensures.value;
@@ -38,7 +38,7 @@ returns-then-place-len-clause-found c =
 pub returns-then-place-len-clause-others : goal.returns-then-place-len-clause-others
 returns-then-place-len-clause-others c =
     let goes : Goes c.args.rows.now.items c.swap_remove-removed.new.self.items c.in-Some.place c.swap_remove-removed.result c.args.id
-        (get nat_cmp c.args.index.now) (get nat_cmp c.remove.new.self) =
+    (get nat_cmp c.args.index.now) (get nat_cmp c.remove.new.self) =
     record {
       indexed = c.requires;
       there = sym c.in-Some.ensures.value;
@@ -54,7 +54,7 @@ returns-then-place-len-clause-others c =
 pub returns-then-place-len-clause-absent : goal.returns-then-place-len-clause-absent
 returns-then-place-len-clause-absent c =
     let goes : Goes c.args.rows.now.items c.swap_remove-removed.new.self.items c.in-Some.place c.swap_remove-removed.result c.args.id
-        (get nat_cmp c.args.index.now) (get nat_cmp c.remove.new.self) =
+    (get nat_cmp c.args.index.now) (get nat_cmp c.remove.new.self) =
     record {
       indexed = c.requires;
       there = sym c.in-Some.ensures.value;
@@ -67,7 +67,7 @@ returns-then-place-len-clause-absent c =
 pub returns-then-place-len-clause-indexed : goal.returns-then-place-len-clause-indexed
 returns-then-place-len-clause-indexed c =
     let goes : Goes c.args.rows.now.items c.swap_remove-removed.new.self.items c.in-Some.place c.swap_remove-removed.result c.args.id
-        (get nat_cmp c.args.index.now) (get nat_cmp c.remove.new.self) =
+    (get nat_cmp c.args.index.now) (get nat_cmp c.remove.new.self) =
     record {
       indexed = c.requires;
       there = sym c.in-Some.ensures.value;
@@ -83,7 +83,7 @@ returns-then-place-len-clause-indexed c =
 pub index-requires : goal.index-requires
 index-requires c =
     let goes : Goes c.args.rows.now.items c.swap_remove-removed.new.self.items c.in-Some.place c.swap_remove-removed.result c.args.id
-        (get nat_cmp c.args.index.now) (get nat_cmp c.remove.new.self) =
+    (get nat_cmp c.args.index.now) (get nat_cmp c.remove.new.self) =
     record {
       indexed = c.requires;
       there = sym c.in-Some.ensures.value;
@@ -100,7 +100,7 @@ index-requires c =
 pub set_place-requires : goal.set_place-requires
 set_place-requires c =
     let goes : Goes c.args.rows.now.items c.swap_remove-removed.new.self.items c.in-Some.place c.swap_remove-removed.result c.args.id
-        (get nat_cmp c.args.index.now) (get nat_cmp c.remove.new.self) =
+    (get nat_cmp c.args.index.now) (get nat_cmp c.remove.new.self) =
     record {
       indexed = c.requires;
       there = sym c.in-Some.ensures.value;
@@ -116,7 +116,7 @@ set_place-requires c =
 pub returns-clause-found : goal.returns-clause-found
 returns-clause-found c =
     let goes : Goes c.args.rows.now.items c.swap_remove-removed.new.self.items c.in-Some.place c.swap_remove-removed.result c.args.id
-        (get nat_cmp c.args.index.now) (get nat_cmp c.remove.new.self) =
+    (get nat_cmp c.args.index.now) (get nat_cmp c.remove.new.self) =
     record {
       indexed = c.requires;
       there = sym c.in-Some.ensures.value;
@@ -129,7 +129,7 @@ returns-clause-found c =
 pub returns-clause-others : goal.returns-clause-others
 returns-clause-others c =
     let goes : Goes c.args.rows.now.items c.swap_remove-removed.new.self.items c.in-Some.place c.swap_remove-removed.result c.args.id
-        (get nat_cmp c.args.index.now) (get nat_cmp c.remove.new.self) =
+    (get nat_cmp c.args.index.now) (get nat_cmp c.remove.new.self) =
     record {
       indexed = c.requires;
       there = sym c.in-Some.ensures.value;
@@ -141,12 +141,12 @@ returns-clause-others c =
     let count = one_fewer goes in
     let more = more_after c.in-Some.place (length c.args.rows.now.items) c.len.result (within goes) (omega (arith, len, count)) c.if-place-len.false in
     another_remaining goes more c.index.result.now c.index.ensures (get nat_cmp c.set_place.new.index)
-        (record { here = c.set_place.ensures.here; others = c.set_place.ensures.others })
+    (record { here = c.set_place.ensures.here; others = c.set_place.ensures.others })
 
 pub returns-clause-absent : goal.returns-clause-absent
 returns-clause-absent c =
     let goes : Goes c.args.rows.now.items c.swap_remove-removed.new.self.items c.in-Some.place c.swap_remove-removed.result c.args.id
-        (get nat_cmp c.args.index.now) (get nat_cmp c.remove.new.self) =
+    (get nat_cmp c.args.index.now) (get nat_cmp c.remove.new.self) =
     record {
       indexed = c.requires;
       there = sym c.in-Some.ensures.value;
@@ -159,7 +159,7 @@ returns-clause-absent c =
 pub returns-clause-indexed : goal.returns-clause-indexed
 returns-clause-indexed c =
     let goes : Goes c.args.rows.now.items c.swap_remove-removed.new.self.items c.in-Some.place c.swap_remove-removed.result c.args.id
-        (get nat_cmp c.args.index.now) (get nat_cmp c.remove.new.self) =
+    (get nat_cmp c.args.index.now) (get nat_cmp c.remove.new.self) =
     record {
       indexed = c.requires;
       there = sym c.in-Some.ensures.value;
@@ -171,4 +171,4 @@ returns-clause-indexed c =
     let count = one_fewer goes in
     let more = more_after c.in-Some.place (length c.args.rows.now.items) c.len.result (within goes) (omega (arith, len, count)) c.if-place-len.false in
     another_gone goes more c.index.result.now c.index.ensures (get nat_cmp c.set_place.new.index)
-        (record { here = c.set_place.ensures.here; others = c.set_place.ensures.others })
+    (record { here = c.set_place.ensures.here; others = c.set_place.ensures.others })

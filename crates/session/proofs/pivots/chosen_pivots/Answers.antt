@@ -8,7 +8,7 @@ use Rattle.session.proofs.pivots.chosen_pivots.Goals as goal
 pub returns-clause-valid : goal.returns-clause-valid
 returns-clause-valid g c = λ space valid.
     IfOk-weaker c.objects_at.result (λ objects. objects.items ≡ map (sample_at c.args.samples.now) c.as_slice.result.now)
-        (λ pivots. All (IsValid space) pivots.items)
+    (λ pivots. All (IsValid space) pivots.items)
     (λ pivots is. subst (All (IsValid space)) (sym (is ∙ ap (map (sample_at c.args.samples.now)) c.as_slice.ensures))
     (All-sample_at (IsValid space) c.args.samples.now c.in_ok-places.places valid c.in_ok-places.ensures.within))
     c.objects_at.ensures

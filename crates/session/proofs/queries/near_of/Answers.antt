@@ -10,4 +10,4 @@ returns-clause-reply g c = λ s metric holds.
     let kind = ruler.kind c.args.ruler.now in
     near_said (ruler.admitted kind) (ruler.dist kind) s metric c.args.pivots.now c.args.c c.args.k c.args.query.now c.args.rows.now c.in_ok-found.found holds
     (c.in_ok-found.ensures.answer ∙ ap (λ query. near_answer (ruler.dist kind) c.args.pivots.now (entries_of c.args.rows.now) query c.args.k)
-        c.as_slice.ensures)
+    c.as_slice.ensures)

@@ -54,11 +54,11 @@ loop-line-preserved-in-Ok-put_all g c =
             let on = kept.goes_on first holds in
             let said = c.as_slice.ensures ∙ c.in-Ok-take_turn.ensures.text on.state on.held
             ∙ ap (λ space. reply_text space (reply on.state c.in-Ok-take_line.line)) (sym c.requires.space ∙ sym kept.space
-                ∙ sym (g.met.T.Turns.space_held c.loop-line.session on.state on.held)) in
+            ∙ sym (g.met.T.Turns.space_held c.loop-line.session on.state on.held)) in
             GoesOn-line turns.holds turns.leaves g.met.T.Turns.leaves_joined first c.args.session.now c.args.reader.now c.loop-line.session c.loop-line.reader
-                written on
+            written on
             c.take_turn.new.session c.take_line.new.self c.in-Ok-take_line.line c.as_slice.result.now consumed.0 not_end c.in-Ok-take_line.ensures.line
-                consumed.1 c.in-Ok-take_line.ensures.after_end how
+            consumed.1 c.in-Ok-take_line.ensures.after_end how
             said (c.in-Ok-take_turn.ensures.next on.state on.held) (c.take_turn.ensures.any_moment on.state on.held);
       },
     )
@@ -85,11 +85,11 @@ loop-line-preserved g c =
             let on = kept.goes_on first holds in
             let said = c.as_slice.ensures ∙ c.in-Ok-take_turn.ensures.text on.state on.held
             ∙ ap (λ space. reply_text space (reply on.state c.in-Ok-take_line.line)) (sym c.requires.space ∙ sym kept.space
-                ∙ sym (g.met.T.Turns.space_held c.loop-line.session on.state on.held)) in
+            ∙ sym (g.met.T.Turns.space_held c.loop-line.session on.state on.held)) in
             GoesOn-line turns.holds turns.leaves g.met.T.Turns.leaves_joined first c.args.session.now c.args.reader.now c.loop-line.session c.loop-line.reader
-                written on
+            written on
             c.take_turn.new.session c.take_line.new.self c.in-Ok-take_line.line c.as_slice.result.now consumed.0 not_end c.in-Ok-take_line.ensures.line
-                consumed.1 c.in-Ok-take_line.ensures.after_end how
+            consumed.1 c.in-Ok-take_line.ensures.after_end how
             said (c.in-Ok-take_turn.ensures.next on.state on.held) (c.take_turn.ensures.any_moment on.state on.held);
       },
     )
@@ -102,7 +102,7 @@ returns-then-is_end-clause-text g c = λ first holds.
     let on = kept.goes_on first holds in
     let end = c.is_end.ensures.0 c.if-is_end.true in
     text_done first c.args.reader.now c.loop-line.reader on.state written on.plays c.take_line.new.self (g.K.Sink.taken c.args.output.now)
-        (g.K.Sink.taken c.loop-line.output) kept.serving.wrote
+    (g.K.Sink.taken c.loop-line.output) kept.serving.wrote
     (subst (λ line. IsNextLine LINE_LIMIT line (rest c.loop-line.reader) (rest c.take_line.new.self)) end c.in-Ok-take_line.ensures.line)
 
 pub returns-then-is_end-clause-any_moment : goal.returns-then-is_end-clause-any_moment
@@ -116,7 +116,7 @@ returns-then-is_end-clause-input g c =
     let end = c.is_end.ensures.0 c.if-is_end.true in
     let spells = subst (λ line. IsTakenFor LINE_LIMIT (Ok line) consumed.0 (rest c.take_line.new.self) (has_ended c.take_line.new.self)) end consumed.2 in
     LeavesInput-done g.S.Source g.K.Sink c.args.reader.now c.args.output.now c.loop-line.reader c.loop-line.output written kept.serving c.take_line.new.self
-        consumed.0 consumed.1 spells.1
+    consumed.0 consumed.1 spells.1
 
 pub returns-then-is_end-clause-cause : goal.returns-then-is_end-clause-cause
 returns-then-is_end-clause-cause g c =
@@ -126,7 +126,7 @@ returns-then-is_end-clause-cause g c =
     let end = c.is_end.ensures.0 c.if-is_end.true in
     let spells = subst (λ line. IsTakenFor LINE_LIMIT (Ok line) consumed.0 (rest c.take_line.new.self) (has_ended c.take_line.new.self)) end consumed.2 in
     cause_done g.S.Source g.K.Sink c.args.reader.now c.args.output.now c.loop-line.reader c.loop-line.output written kept.serving c.take_line.new.self
-        consumed.0 consumed.1
+    consumed.0 consumed.1
     g.T.Turns.faults c.args.session.now c.loop-line.session kept.disk read.0 read.1 spells.1
 
 -- ---- the reader stops
@@ -137,7 +137,7 @@ returns-in-Err-clause-text g c = λ first holds.
     let on = kept.goes_on first holds in
     let consumed = c.take_line.ensures.consumed in
     text_stopped first c.args.reader.now c.loop-line.reader on.state written on.plays c.take_line.new.self consumed.0 consumed.1
-        (g.K.Sink.taken c.args.output.now) (g.K.Sink.taken c.loop-line.output) kept.serving.wrote
+    (g.K.Sink.taken c.args.output.now) (g.K.Sink.taken c.loop-line.output) kept.serving.wrote
     c.in-Err.e c.take_line.result c.in-Err.is c.take_line.ensures.cause consumed.2 c.take_line.ensures.after_end c.stopped_by.result c.stopped_by.ensures
 
 pub returns-in-Err-clause-any_moment : goal.returns-in-Err-clause-any_moment
@@ -149,7 +149,7 @@ returns-in-Err-clause-input g c =
     let (written, kept) = c.loop-line.invariant in
     let consumed = c.take_line.ensures.consumed in
     LeavesInput-front g.S.Source g.K.Sink c.args.reader.now c.args.output.now c.loop-line.reader c.loop-line.output written kept.serving c.take_line.new.self
-        consumed.0 consumed.1
+    consumed.0 consumed.1
     c.stopped_by.result (λ done. stopped_is_not_done c.in-Err.e (sym c.stopped_by.ensures ∙ done))
 
 pub returns-in-Err-clause-cause : goal.returns-in-Err-clause-cause
@@ -157,9 +157,9 @@ returns-in-Err-clause-cause g c =
     let (written, kept) = c.loop-line.invariant in
     let consumed = c.take_line.ensures.consumed in
     cause_stopped g.S.Source g.K.Sink c.args.reader.now c.args.output.now c.loop-line.reader c.loop-line.output written kept.serving c.take_line.new.self
-        consumed.0 consumed.1
+    consumed.0 consumed.1
     g.T.Turns.faults c.args.session.now c.loop-line.session kept.disk c.in-Err.e c.take_line.result c.in-Err.is c.take_line.ensures.cause c.stopped_by.result
-        c.stopped_by.ensures
+    c.stopped_by.ensures
 
 -- ---- the session ends
 
@@ -168,21 +168,21 @@ returns-in_default-take_turn-clause-text g c = λ first holds.
     let (written, kept) = c.loop-line.invariant in
     let on = kept.goes_on first holds in
     front_so_far first c.args.reader.now c.loop-line.reader on.state written on.plays (g.K.Sink.taken c.args.output.now) (g.K.Sink.taken c.loop-line.output)
-        kept.serving.wrote
+    kept.serving.wrote
 
 pub returns-in_default-take_turn-clause-any_moment : goal.returns-in_default-take_turn-clause-any_moment
 returns-in_default-take_turn-clause-any_moment g c = λ first holds.
     let (written, kept) = c.loop-line.invariant in
     let on = kept.goes_on first holds in
     g.met.T.Turns.leaves_joined c.args.session.now c.loop-line.session c.take_turn.new.session first on.state on.leads on.left
-        (c.take_turn.ensures.any_moment on.state on.held)
+    (c.take_turn.ensures.any_moment on.state on.held)
 
 pub returns-in_default-take_turn-clause-input : goal.returns-in_default-take_turn-clause-input
 returns-in_default-take_turn-clause-input g c =
     let (written, kept) = c.loop-line.invariant in
     let consumed = c.in-Ok-take_line.ensures.consumed in
     LeavesInput-front g.S.Source g.K.Sink c.args.reader.now c.args.output.now c.loop-line.reader c.loop-line.output written kept.serving c.take_line.new.self
-        consumed.0 consumed.1 NoMemory (λ e. cc)
+    consumed.0 consumed.1 NoMemory (λ e. cc)
 
 -- ---- the sink fails
 
@@ -193,10 +193,10 @@ returns-in_default-put_all-clause-text g c = λ first holds.
     let not_end : c.in-Ok-take_line.line ≡ End → ⊥ = λ e. false≢true (sym c.if-is_end.false ∙ c.is_end.ensures.1 e) in
     let said = c.as_slice.ensures ∙ c.in-Ok-take_turn.ensures.text on.state on.held
     ∙ ap (λ space. reply_text space (reply on.state c.in-Ok-take_line.line)) (sym c.requires.space ∙ sym kept.space
-        ∙ sym (g.met.T.Turns.space_held c.loop-line.session on.state on.held)) in
+    ∙ sym (g.met.T.Turns.space_held c.loop-line.session on.state on.held)) in
     let puts = c.in_default-put_all.ensures.puts in
     front_of_reply first c.args.reader.now c.loop-line.reader on.state written on.plays c.take_line.new.self c.in-Ok-take_line.line c.as_slice.result.now
-        not_end c.in-Ok-take_line.ensures.line said
+    not_end c.in-Ok-take_line.ensures.line said
     (g.K.Sink.taken c.args.output.now) (g.K.Sink.taken c.loop-line.output) (g.K.Sink.taken c.put_all.new.sink) puts.0 kept.serving.wrote puts.2
 
 pub returns-in_default-put_all-clause-any_moment : goal.returns-in_default-put_all-clause-any_moment
@@ -204,14 +204,14 @@ returns-in_default-put_all-clause-any_moment g c = λ first holds.
     let (written, kept) = c.loop-line.invariant in
     let on = kept.goes_on first holds in
     g.met.T.Turns.leaves_joined c.args.session.now c.loop-line.session c.take_turn.new.session first on.state on.leads on.left
-        (c.take_turn.ensures.any_moment on.state on.held)
+    (c.take_turn.ensures.any_moment on.state on.held)
 
 pub returns-in_default-put_all-clause-input : goal.returns-in_default-put_all-clause-input
 returns-in_default-put_all-clause-input g c =
     let (written, kept) = c.loop-line.invariant in
     let consumed = c.in-Ok-take_line.ensures.consumed in
     LeavesInput-front g.S.Source g.K.Sink c.args.reader.now c.args.output.now c.loop-line.reader c.loop-line.output written kept.serving c.take_line.new.self
-        consumed.0 consumed.1 WriteFault (λ e. cc)
+    consumed.0 consumed.1 WriteFault (λ e. cc)
 
 pub returns-in_default-put_all-clause-cause : goal.returns-in_default-put_all-clause-cause
 returns-in_default-put_all-clause-cause g c =
@@ -221,6 +221,7 @@ returns-in_default-put_all-clause-cause g c =
     let source = kept.serving.source in
     let sink = kept.serving.sink_faults in
     let disk = kept.disk in
-    let turn = c.take_turn.ensures.faults in
-    (record { source = omega (arith, source, read.0); sink = omega (arith, sink, wrote.0); disk = omega (arith, disk, turn) },
-        HasRisen-later _ _ _ sink wrote.1)
+    let turn = c.take_turn.ensures.faults in (
+      record { source = omega (arith, source, read.0); sink = omega (arith, sink, wrote.0); disk = omega (arith, disk, turn) },
+      HasRisen-later _ _ _ sink wrote.1,
+    )

@@ -16,7 +16,7 @@ loop-step-preserved g c =
     let now : c.loop-step.gathered ≡ cut_to g.row.N ((c.loop-step.step - 1) + 1) (gathered g.row.N (most_bits g.row.N) c.args.key) =
     c.loop-step.invariant ∙ ap (λ t. cut_to g.row.N t (gathered g.row.N (most_bits g.row.N) c.args.key)) level in
     ap (λ t. bit_and (bit_or t (t / 2 ^ get_or c.spacing_of-spacing.result.now.shifts (c.loop-step.step - 1) 0))
-        (get_or c.spacing_of-spacing.result.now.masks (c.loop-step.step - 1) 0)) now
+    (get_or c.spacing_of-spacing.result.now.masks (c.loop-step.step - 1) 0)) now
     ∙ gather_step g.row.N (c.loop-step.step - 1) (gathered g.row.N (most_bits g.row.N) c.args.key) _ _ c.requires.low early
     (gathered-below g.row.N (most_bits g.row.N) c.args.key)
     (c.spacing_of-spacing.ensures.shifts (c.loop-step.step - 1) early)
@@ -31,7 +31,7 @@ ended n k step value now late =
 pub overflow_cast-result : goal.overflow_cast-result
 overflow_cast-result g c =
     let value : c.loop-step.gathered ≡ gathered g.row.N (most_bits g.row.N) c.args.key =
-        ended g.row.N c.args.key c.loop-step.step c.loop-step.gathered c.loop-step.invariant c.loop-step-test.false in
+    ended g.row.N c.args.key c.loop-step.step c.loop-step.gathered c.loop-step.invariant c.loop-step-test.false in
     let small : gathered g.row.N (most_bits g.row.N) c.args.key < 2 ^ 32 = small_gathered g.row.N c.args.key in
     let fits : c.loop-step.gathered < 2 ^ 32 = omega arith in
     search rules

@@ -11,7 +11,7 @@ overflow_shl-spread g c = c.spacing_of-spacing.ensures.short c.loop-step.step c.
 pub loop-step-preserved : goal.loop-step-preserved
 loop-step-preserved g c =
     ap (λ t. bit_and (bit_or t (t * 2 ^ get_or c.spacing_of-spacing.result.now.shifts c.loop-step.step 0 % 2 ^ 64))
-        (get_or c.spacing_of-spacing.result.now.masks (c.loop-step.step + 1) 0)) c.loop-step.invariant
+    (get_or c.spacing_of-spacing.result.now.masks (c.loop-step.step + 1) 0)) c.loop-step.invariant
     ∙ spread_step g.row.N c.loop-step.step c.args.number _ _ c.requires.low c.loop-step-test.true c.requires.bits
     (c.spacing_of-spacing.ensures.shifts c.loop-step.step c.loop-step-test.true)
     (c.spacing_of-spacing.ensures.masks (c.loop-step.step + 1) (omega arith))

@@ -13,7 +13,7 @@ overflow_cast-result c =
     let small : universe < 2 ^ 32 = sets_small universe most c.args.self.now.in_range in
     let same : c.count_of_one_sided.result ≡ set_dist universe (components c.args.a.now) (components c.args.b.now) =
     c.count_of_one_sided.ensures universe most (elements-IsSubset universe most c.args.a.now small c.requires.first)
-        (elements-IsSubset universe most c.args.b.now small c.requires.second) in
+    (elements-IsSubset universe most c.args.b.now small c.requires.second) in
     let below : set_dist universe (components c.args.a.now) (components c.args.b.now) < 2 ^ 32 =
     dist-below (Sets universe most) c.args.a.now c.args.b.now c.args.self.now.in_range c.requires.first c.requires.second in
     omega arith
@@ -24,4 +24,4 @@ returns c =
     let most = c.args.self.now.most in
     let small : universe < 2 ^ 32 = sets_small universe most c.args.self.now.in_range in
     c.count_of_one_sided.ensures universe most (elements-IsSubset universe most c.args.a.now small c.requires.first)
-        (elements-IsSubset universe most c.args.b.now small c.requires.second)
+    (elements-IsSubset universe most c.args.b.now small c.requires.second)

@@ -15,5 +15,5 @@ returns-in-Some c =
     let long : length (heap_items now.heap) ≡ heap_len now.heap = search rules in
     let some : 0 < heap_len now.heap = c.in-Some.ensures.variant.0 refl in
     c.is_lt.ensures ∙ ap is_lt c.cmp.ensures ∙ open-many now.most c.in-Some.greatest.now c.args.rank (heap_items now.heap)
-        (omega (arith, long, now.few, c.if-len-self.false, c.len.ensures)) (omega (arith, now.few, some, c.if-len-self.false, c.len.ensures))
+    (omega (arith, long, now.few, c.if-len-self.false, c.len.ensures)) (omega (arith, now.few, some, c.if-len-self.false, c.len.ensures))
     c.in-Some.ensures.lookup (c.in-Some.ensures.greatest now.ordered)

@@ -9,4 +9,4 @@ pub returns : goal.returns
 returns c =
     let heaped = heap_items c.from.result in
     subst (λ items. IsPermutation items (map turned_back heaped)) c.in_ok-found.ensures
-        (IsPermutation-map turned_back c.in_ok-found.found.items heaped c.from.ensures.1)
+    (IsPermutation-map turned_back c.in_ok-found.found.items heaped c.from.ensures.1)

@@ -8,7 +8,7 @@ pub unreachable-requires : goal.unreachable-requires
 unreachable-requires g c =
     let filled = subst (λ (s : Slots). IsTrue (is_filled s c.args.slot)) (sym c.self.view_is) c.requires.filled in
     let below : length c.self.inside.free.items < c.self.inside.cap =
-        fits_one c.self.inside.cap c.self.inside.free.items c.args.slot c.self.invariant.free filled in
+    fits_one c.self.inside.cap c.self.inside.free.items c.args.slot c.self.invariant.free filled in
     search (rules, below, c.self.invariant.room)
 
 pub invariant_of-self : goal.invariant_of-self

@@ -11,7 +11,7 @@ invariant_of-self g c =
     let place : vec_len c.self.inside.free - 1 ≡ length c.self.inside.free.items - 1 = search rules in
     let some : 0 < length c.self.inside.free.items = search rules in
     let whole = popped c.self.inside.free.items c.pop.new.self.items c.index-slot.result.now (vec_len c.self.inside.free - 1)
-        some place is c.pop.ensures.rest in
+    some place is c.pop.ensures.rest in
     record {
       few = c.self.invariant.few;
       free = taken_free _ _ c.index-slot.result.now (subst (AreFree (is_slot c.self.inside.cap)) whole c.self.invariant.free);
@@ -24,7 +24,7 @@ returns-clause-taken g c =
     let place : vec_len c.self.inside.free - 1 ≡ length c.self.inside.free.items - 1 = search rules in
     let some : 0 < length c.self.inside.free.items = search rules in
     let whole = popped c.self.inside.free.items c.pop.new.self.items c.index-slot.result.now (vec_len c.self.inside.free - 1)
-        some place is c.pop.ensures.rest in
+    some place is c.pop.ensures.rest in
     let below : c.index-slot.result.now < c.self.inside.cap =
-        last_slot c.self.inside.cap c.pop.new.self.items c.index-slot.result.now (subst (AreFree (is_slot c.self.inside.cap)) whole c.self.invariant.free) in
+    last_slot c.self.inside.cap c.pop.new.self.items c.index-slot.result.now (subst (AreFree (is_slot c.self.inside.cap)) whole c.self.invariant.free) in
     (search (rules, below, c.self.view_is), rw (← c.self.view_is, whole) (last_first c.pop.new.self.items c.index-slot.result.now))

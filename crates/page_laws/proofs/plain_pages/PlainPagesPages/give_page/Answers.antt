@@ -9,8 +9,12 @@ use Rattle.page_laws.proofs.plain_pages.PlainPagesPages.give_page.Goals as goal
 pub unreachable-requires : goal.unreachable-requires
 unreachable-requires c =
     let live = subst (λ (p : Plain). IsTrue (is_live (in_pool p) p.free c.args.n)) (sym c.self.view_is) c.requires.live in
-    let p : Plain = record { pages = c.self.inside.pages.items; first = c.self.inside.first; free = c.self.inside.free.items;
-        fetches = c.self.inside.fetches } in
+    let p : Plain = record {
+      pages = c.self.inside.pages.items;
+      first = c.self.inside.first;
+      free = c.self.inside.free.items;
+      fetches = c.self.inside.fetches;
+    } in
     let below : length p.free < length p.pages - p.first = fits_one p c.args.n c.self.invariant.free live in
     search (rules, below, c.self.invariant.room)
 

@@ -10,7 +10,7 @@ returns-clause-bytes c =
     let long = c.self.invariant.long in
     c.deref.ensures.value
     ∙ sym (take-append-drop 512 body) ∙ ap (λ xs. take 512 body ++ xs)
-        (sym (joined-page_entries c.self.inside.numbers.items (drop 512 body) (length-drop 512 body ∙ omega (arith, long))))
+    (sym (joined-page_entries c.self.inside.numbers.items (drop 512 body) (length-drop 512 body ∙ omega (arith, long))))
     ∙ ap (λ s. s.header ++ joined_images s.pages) c.self.view_is
 
 pub returns-clause-long : goal.returns-clause-long

@@ -8,9 +8,9 @@ pub returns-clause-closed : goal.returns-clause-closed
 returns-clause-closed g c =
     let store = c.args.self.now in
     let chosen : c.in_ok-pivots.pivots.items
-        ≡ chosen_samples (g.M.Metric.dist c.args.metric.now) store.samples.items (min store.wanted (length store.samples.items)) =
+    ≡ chosen_samples (g.M.Metric.dist c.args.metric.now) store.samples.items (min store.wanted (length store.samples.items)) =
     c.in_ok-pivots.ensures.pivots
     ∙ ap (λ samples. chosen_samples (g.M.Metric.dist c.args.metric.now) samples (min store.wanted (length samples))) c.as_slice.ensures.value in
     closed_by store c.in_ok-pivots.pivots.items c.if-not-self.false
     (chosen ∙ ap (λ (f : List ℕ → List ℕ → ℕ). chosen_samples f store.samples.items (min store.wanted (length store.samples.items)))
-        c.requires.metric.distance_is)
+    c.requires.metric.distance_is)

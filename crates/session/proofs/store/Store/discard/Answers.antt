@@ -10,7 +10,7 @@ pub returns-then-remove-clause-reply : goal.returns-then-remove-clause-reply
 returns-then-remove-clause-reply c =
     let at = at_place c.args.self.now c.requires.sound c.args.c c.requires.collection c.index-self-c.result in
     sym (dropped c.args.self.now c.requires.sound c.args.c c.requires.collection c.args.id (ap (λ rows. is_some (row_with c.args.id rows)) (sym at)
-        ∙ sym c.remove.ensures.found ∙ c.if-remove.true)).0
+    ∙ sym c.remove.ensures.found ∙ c.if-remove.true)).0
 
 pub returns-then-remove-clause-next : goal.returns-then-remove-clause-next
 returns-then-remove-clause-next c =
@@ -18,7 +18,7 @@ returns-then-remove-clause-next c =
     cut_state c.args.self.now c.requires.sound c.args.c c.requires.collection c.args.id c.remove.new.self
     (subst (λ (rows : List Row). IsPermutation (rows_without c.args.id rows) c.remove.new.self) at c.remove.ensures.others)
     ∙ sym (dropped c.args.self.now c.requires.sound c.args.c c.requires.collection c.args.id (ap (λ rows. is_some (row_with c.args.id rows)) (sym at)
-        ∙ sym c.remove.ensures.found ∙ c.if-remove.true)).1
+    ∙ sym c.remove.ensures.found ∙ c.if-remove.true)).1
 
 pub returns-then-remove-clause-sound : goal.returns-then-remove-clause-sound
 returns-then-remove-clause-sound c =
@@ -30,15 +30,15 @@ pub returns-else-remove-clause-reply : goal.returns-else-remove-clause-reply
 returns-else-remove-clause-reply c =
     let at = at_place c.args.self.now c.requires.sound c.args.c c.requires.collection c.index-self-c.result in
     sym (dropped_nothing c.args.self.now c.requires.sound c.args.c c.requires.collection c.args.id (ap (λ rows. is_some (row_with c.args.id rows)) (sym at)
-        ∙ sym c.remove.ensures.found ∙ c.if-remove.false)).0
+    ∙ sym c.remove.ensures.found ∙ c.if-remove.false)).0
 
 pub returns-else-remove-clause-next : goal.returns-else-remove-clause-next
 returns-else-remove-clause-next c =
     let at = at_place c.args.self.now c.requires.sound c.args.c c.requires.collection c.index-self-c.result in
     ap state_of (same_store c.args.self.now c.requires.sound c.args.c c.requires.collection c.index-self-c.result c.remove.new.self
-        (c.remove.ensures.absent (not_there _ (sym c.remove.ensures.found ∙ c.if-remove.false))))
+    (c.remove.ensures.absent (not_there _ (sym c.remove.ensures.found ∙ c.if-remove.false))))
     ∙ sym (dropped_nothing c.args.self.now c.requires.sound c.args.c c.requires.collection c.args.id (ap (λ rows. is_some (row_with c.args.id rows)) (sym at)
-        ∙ sym c.remove.ensures.found ∙ c.if-remove.false)).1
+    ∙ sym c.remove.ensures.found ∙ c.if-remove.false)).1
 
 pub returns-else-remove-clause-sound : goal.returns-else-remove-clause-sound
 returns-else-remove-clause-sound c =

@@ -31,9 +31,9 @@ returns-clause-reply g c =
     let at' = at_place c.args.self.now c.requires.sound c.args.d c.requires.right c.index-self-d.result in
     c.join_of.ensures.reply (state_of c.args.self.now) c.requires.ruler refl
     (holds_rows c.args.self.now c.requires.sound c.args.c c.requires.left c.rows-left.result.now c.as_slice.result.now (c.rows-left.ensures.rows
-        ∙ at) c.as_slice.ensures.value)
+    ∙ at) c.as_slice.ensures.value)
     (holds_rows c.args.self.now c.requires.sound c.args.d c.requires.right c.rows-right.result.now c.as_slice.result.now (c.rows-right.ensures.rows
-        ∙ at') c.as_slice.ensures.value)
+    ∙ at') c.as_slice.ensures.value)
 
 pub returns-clause-object : goal.returns-clause-object
 returns-clause-object g c = c.join_of.ensures.object c.args.self.now.space

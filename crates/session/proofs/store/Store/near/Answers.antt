@@ -25,7 +25,7 @@ returns-clause-reply g c =
     let at = at_place c.args.self.now c.requires.sound c.args.c c.requires.collection c.index-self-c.result in
     c.near_of.ensures.reply (state_of c.args.self.now) c.requires.ruler
     (holds_rows c.args.self.now c.requires.sound c.args.c c.requires.collection c.rows-rows.result.now c.as_slice.result.now (c.rows-rows.ensures.rows
-        ∙ at) c.as_slice.ensures.value)
+    ∙ at) c.as_slice.ensures.value)
 
 pub returns-clause-object : goal.returns-clause-object
 returns-clause-object g c = c.near_of.ensures.object c.args.self.now.space

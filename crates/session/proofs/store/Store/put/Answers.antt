@@ -9,7 +9,7 @@ use Rattle.session.proofs.store.Store.put.Goals as goal
 pub returns-in_err-insert-clause-sound : goal.returns-in_err-insert-clause-sound
 returns-in_err-insert-clause-sound g c =
     subst IsStore (sym (same_store c.args.self.now c.requires.sound c.args.c c.requires.collection c.index-self-c.result c.insert.new.self
-        c.in_err-insert.ensures.err)) c.requires.sound
+    c.in_err-insert.ensures.err)) c.requires.sound
 
 pub returns-clause-members : goal.returns-clause-members
 returns-clause-members g c =

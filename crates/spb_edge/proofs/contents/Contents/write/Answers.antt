@@ -11,7 +11,7 @@ invariant_of-self-2 c =
     let within : c.args.at ≤ length old = omega (arith, c.requires.within, ap (λ v. length v.image) c.self.view_is) in
     let images = ap length c.in_ok-reserve.ensures.image in
     let sizes : length c.lay.new.image.items ≡ length (overwritten_at old c.args.at c.args.bytes.now) = ap length c.in-Ok-Ok.ensures.laid
-        ∙ ap (λ i. length (overwritten_at i c.args.at c.args.bytes.now)) c.in_ok-reserve.ensures.image in
+    ∙ ap (λ i. length (overwritten_at i c.args.at c.args.bytes.now)) c.in_ok-reserve.ensures.image in
     let sized = sizes ∙ length-overwritten_at old c.args.at c.args.bytes.now within in
     let kept : length c.reserve.new.kept.items ≡ length inside.kept.items = ap length c.in_ok-reserve.ensures.kept in (
       omega (arith, c.self.invariant.0, sized, kept),

@@ -9,4 +9,4 @@ pub returns-in-DropAll-clause-may_leave : goal.returns-in-DropAll-clause-may_lea
 returns-in-DropAll-clause-may_leave c =
     let held = c.args.self.now.held in
     IfOk-weaker _ _ _ (λ bytes is. inr (subst (λ (b : List ℕ). AreTornOver held.kept held.unsynced b)
-        (sym (is ∙ c.kept.ensures ∙ ap (λ (d : DiskState). d.held.kept) c.self.view_is)) (leaves-kept held.kept held.unsynced))) c.of-in-DropAll.ensures
+    (sym (is ∙ c.kept.ensures ∙ ap (λ (d : DiskState). d.held.kept) c.self.view_is)) (leaves-kept held.kept held.unsynced))) c.of-in-DropAll.ensures

@@ -8,13 +8,13 @@ pub invariant_of-self : goal.invariant_of-self
 invariant_of-self c =
     let inside = c.self.inside in
     reached-call inside.first.items inside.log inside.held c.self.invariant Size [] refl c.call.new.self inside.held c.call.ensures.state
-        (either (is_made inside.log 0) inside.held)
+    (either (is_made inside.log 0) inside.held)
 
 pub invariant_of-self-2 : goal.invariant_of-self-2
 invariant_of-self-2 c =
     let inside = c.self.inside in
     reached-call inside.first.items inside.log inside.held c.self.invariant Size [] refl c.call.new.self inside.held c.call.ensures.state
-        (either (is_made inside.log 0) inside.held)
+    (either (is_made inside.log 0) inside.held)
 
 pub returns-in_err-call-clause-quiet : goal.returns-in_err-call-clause-quiet
 returns-in_err-call-clause-quiet c =

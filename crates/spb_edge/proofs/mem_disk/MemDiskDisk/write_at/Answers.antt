@@ -17,10 +17,10 @@ invariant_of-self-then-fails_next c =
     let fails : fails_next inside.log ≡ true = sym c.fails_next.ensures ∙ c.if-fails_next.true in
     let logs = c.note.ensures.state ∙ log_after-made (is_made inside.log (length bytes)) (Write c.args.at (length bytes)) bytes inside.log accepted in
     let holds = held-made (is_made inside.log (length bytes)) (fails_next inside.log) inside.held c.tear.new.self c.args.at bytes (inside.held.image)
-        accepted c.tear.ensures
+    accepted c.tear.ensures
     (ap (λ b. if b then inside.held.image else overwritten_at inside.held.image c.args.at bytes) (sym fails)) in
     reached-call inside.first.items inside.log inside.held c.self.invariant (Write c.args.at (length bytes))
-        bytes refl c.note.new.self c.tear.new.self logs holds
+    bytes refl c.note.new.self c.tear.new.self logs holds
 
 pub returns-then-fails_next-clause-time : goal.returns-then-fails_next-clause-time
 returns-then-fails_next-clause-time c =
@@ -30,7 +30,7 @@ returns-then-fails_next-clause-time c =
     let fails : fails_next inside.log ≡ true = sym c.fails_next.ensures ∙ c.if-fails_next.true in
     let logs = c.note.ensures.state ∙ log_after-made (is_made inside.log (length bytes)) (Write c.args.at (length bytes)) bytes inside.log accepted in
     let holds = held-made (is_made inside.log (length bytes)) (fails_next inside.log) inside.held c.tear.new.self c.args.at bytes (inside.held.image)
-        accepted c.tear.ensures
+    accepted c.tear.ensures
     (ap (λ b. if b then inside.held.image else overwritten_at inside.held.image c.args.at bytes) (sym fails)) in
     let new : DiskState = record { first = inside.first.items; log = c.note.new.self; held = c.tear.new.self; reads = inside.reads } in
     elapses-call _ c.args.self.now new c.self.view_is c.self.invariant (Write c.args.at (length bytes)) bytes refl refl logs holds
@@ -44,7 +44,7 @@ returns-then-fails_next-clause-crash c =
     let follows = follows-range inside.held c.args.at bytes (inside.held.image) within (inl refl) in
     subst (λ (h : Contents). FollowsBy (IsTornWrite c.args.at (length bytes)) (IsCrashState c.args.self.now.held) (IsCrashState h)) (sym c.tear.ensures)
     (subst (λ (h : Contents). FollowsBy (IsTornWrite c.args.at (length bytes)) (IsCrashState h)
-        (IsCrashState (with_range c.args.at (length bytes) (inside.held.image) inside.held))) held follows)
+    (IsCrashState (with_range c.args.at (length bytes) (inside.held.image) inside.held))) held follows)
 
 pub invariant_of-self-2 : goal.invariant_of-self-2
 invariant_of-self-2 c =
@@ -54,10 +54,10 @@ invariant_of-self-2 c =
     let fails : fails_next inside.log ≡ false = sym c.fails_next.ensures ∙ c.if-fails_next.false in
     let logs = c.note-2.ensures.state ∙ log_after-made (is_made inside.log (length bytes)) (Write c.args.at (length bytes)) bytes inside.log accepted in
     let holds = held-made (is_made inside.log (length bytes)) (fails_next inside.log) inside.held c.write.new.self c.args.at bytes
-        (overwritten_at inside.held.image c.args.at bytes) accepted c.in_default.ensures.ok
+    (overwritten_at inside.held.image c.args.at bytes) accepted c.in_default.ensures.ok
     (ap (λ b. if b then inside.held.image else overwritten_at inside.held.image c.args.at bytes) (sym fails)) in
     reached-call inside.first.items inside.log inside.held c.self.invariant (Write c.args.at (length bytes))
-        bytes refl c.note-2.new.self c.write.new.self logs holds
+    bytes refl c.note-2.new.self c.write.new.self logs holds
 
 pub returns-clause-time : goal.returns-clause-time
 returns-clause-time c =
@@ -67,7 +67,7 @@ returns-clause-time c =
     let fails : fails_next inside.log ≡ false = sym c.fails_next.ensures ∙ c.if-fails_next.false in
     let logs = c.note-2.ensures.state ∙ log_after-made (is_made inside.log (length bytes)) (Write c.args.at (length bytes)) bytes inside.log accepted in
     let holds = held-made (is_made inside.log (length bytes)) (fails_next inside.log) inside.held c.write.new.self c.args.at bytes
-        (overwritten_at inside.held.image c.args.at bytes) accepted c.in_default.ensures.ok
+    (overwritten_at inside.held.image c.args.at bytes) accepted c.in_default.ensures.ok
     (ap (λ b. if b then inside.held.image else overwritten_at inside.held.image c.args.at bytes) (sym fails)) in
     let new : DiskState = record { first = inside.first.items; log = c.note-2.new.self; held = c.write.new.self; reads = inside.reads } in
     elapses-call _ c.args.self.now new c.self.view_is c.self.invariant (Write c.args.at (length bytes)) bytes refl refl logs holds
@@ -80,6 +80,6 @@ returns-clause-crash c =
     let within : c.args.at ≤ length inside.held.image = omega (arith, c.requires, ap (λ (h : Contents). length h.image) held) in
     let follows = follows-range inside.held c.args.at bytes (overwritten_at inside.held.image c.args.at bytes) within (inr refl) in
     subst (λ (h : Contents). FollowsBy (IsTornWrite c.args.at (length bytes)) (IsCrashState c.args.self.now.held) (IsCrashState h))
-        (sym c.in_default.ensures.ok)
+    (sym c.in_default.ensures.ok)
     (subst (λ (h : Contents). FollowsBy (IsTornWrite c.args.at (length bytes)) (IsCrashState h)
-        (IsCrashState (with_range c.args.at (length bytes) (overwritten_at inside.held.image c.args.at bytes) inside.held))) held follows)
+    (IsCrashState (with_range c.args.at (length bytes) (overwritten_at inside.held.image c.args.at bytes) inside.held))) held follows)

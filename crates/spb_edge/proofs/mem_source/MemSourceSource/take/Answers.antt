@@ -11,7 +11,7 @@ returns-clause-gives c =
     let count = c.min-count.result in
     let slice : c.as_slice.result.now ≡ bytes = c.as_slice.ensures in
     let rest : take (length c.as_slice.result.now - at) (drop at c.as_slice.result.now) ≡ drop at c.as_slice.result.now =
-        between_to_end c.as_slice.result.now at (length c.as_slice.result.now) (omega arith) in
+    between_to_end c.as_slice.result.now at (length c.as_slice.result.now) (omega arith) in
     let left = ap (λ s. s.left) c.self.view_is in
     let room : count ≤ length c.args.into.now = omega (arith, c.min-count.ensures) in
     ap Some (front_copied c.args.self.now.left bytes c.copy_from_slice.new.self _ at count (sym left)

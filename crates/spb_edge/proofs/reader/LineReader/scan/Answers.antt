@@ -17,5 +17,8 @@ returns-in_ok-line-in-Some-clause-scans g c =
 
 pub returns-in_ok-line-in-None-clause-scans : goal.returns-in_ok-line-in-None-clause-scans
 returns-in_ok-line-in-None-clause-scans g c =
-    let found = c.in-None.ensures in (HasNoLf-all _ found, range-empty c.args.self.now.buffer c.args.self.now.end,
-        λ front is. c.in_ok-line-in-None.ensures front is)
+    let found = c.in-None.ensures in (
+      HasNoLf-all _ found,
+      range-empty c.args.self.now.buffer c.args.self.now.end,
+      λ front is. c.in_ok-line-in-None.ensures front is,
+    )

@@ -15,7 +15,7 @@ pub overflow_add-key : goal.overflow_add-key
 overflow_add-key g c =
     let more = one_more g.row.N c.args.self.now.b c.loop-coordinate.coordinate-index c.loop-coordinate.key c.spread.result c.args.coordinates.now
     (subst (λ t. IsCell t c.args.self.now.b c.args.coordinates.now) c.requires.count c.requires.cell)
-        c.loop-coordinate-test.true c.loop-coordinate.invariant c.spread.ensures in
+    c.loop-coordinate-test.true c.loop-coordinate.invariant c.spread.ensures in
     let fits : (c.loop-coordinate.key * 2) % 2 ^ 64 + c.spread.result < 2 ^ 64 = omega (arith, more.1) in
     search rules
 
@@ -23,7 +23,7 @@ pub loop-coordinate-preserved : goal.loop-coordinate-preserved
 loop-coordinate-preserved g c =
     let more = one_more g.row.N c.args.self.now.b c.loop-coordinate.coordinate-index c.loop-coordinate.key c.spread.result c.args.coordinates.now
     (subst (λ t. IsCell t c.args.self.now.b c.args.coordinates.now) c.requires.count c.requires.cell)
-        c.loop-coordinate-test.true c.loop-coordinate.invariant c.spread.ensures in
+    c.loop-coordinate-test.true c.loop-coordinate.invariant c.spread.ensures in
     omega (arith, more.0, more.1)
 
 pub returns : goal.returns

@@ -10,5 +10,5 @@ returns g c =
     let ended : g.row.N ≤ c.loop-place.place = c.loop-place-test.false in
     c.of.ensures
     ∙ separated g.row.N c.args.self.now.b c.args.key c.loop-place.coordinate-items key c.loop-place.invariant.0
-        (λ i h. c.loop-place.invariant.1 i (omega arith))
+    (λ i h. c.loop-place.invariant.1 i (omega arith))
     ∙ subst (λ t. z_cell t c.args.self.now.b c.args.key ≡ z_cell c.args.self.now.n c.args.self.now.b c.args.key) c.requires.count refl

@@ -6,4 +6,4 @@ use Rattle.z_curve.proofs.curve.ZCurve.separated.Given as goal
 abbrev pub invariant-loop-place : goal.invariant-loop-place
 invariant-loop-place g l =
     (length l.coordinate-items ≡ g.row.N)
-        × ((k : ℕ) → k < l.place → get_or l.coordinate-items k 0 ≡ gathered g.row.N (most_bits g.row.N) (l.key / 2 ^ (g.row.N - 1 - k)))
+    × ((k : ℕ) → k < l.place → get_or l.coordinate-items k 0 ≡ gathered g.row.N (most_bits g.row.N) (l.key / 2 ^ (g.row.N - 1 - k)))
