@@ -1,2 +1,3 @@
 pub mod SlotBytes
 pub mod FreeSlots
+pub mod Worked

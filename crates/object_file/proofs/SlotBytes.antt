@@ -1,5 +1,5 @@
 -- The bytes of slots. No other file opens the words of slots.
-use Rattle.std.proofs.Common.{◌≡◌, ◌⊎◌, inl, inr, ℕ, zero, suc, ◌+◌, ◌-◌, ◌*◌, ◌<◌, ◌≤◌, ◌^◌, ◌==◌, Bool, true, false, ◌&&◌, List, [], ◌∷◌, ◌++◌, length, take, drop, replicate, slice_index, get_or, refl, sym, ◌∙◌, ap, subst, arith, length-append}
+use Rattle.std.proofs.Common.{◌≡◌, ◌⊎◌, inl, inr, ℕ, zero, suc, ◌+◌, ◌-◌, ◌*◌, ◌<◌, ◌≤◌, ◌^◌, ◌==◌, true, false, ◌&&◌, List, ◌∷◌, ◌++◌, length, take, drop, replicate, slice_index, get_or, refl, sym, ◌∙◌, ap, subst, arith, length-append}
 use Rattle.std.specs.Prelude.{nat_le, nat_lt, slice_set, if◌then◌else◌}
 use Rattle.std.proofs.lemmas.Bool.{cases_lt}
 use Rattle.std.proofs.lemmas.Bool.Decides.{nat_tests}
@@ -8,7 +8,7 @@ use borrow.Rule.Slice.PartMut.{put_mid}
 use Rattle.byteorder.specs.Numbers.{length-bytes_high_first, big_number-reads_back}
 use Rattle.page_laws.specs.Pages.{are_zero}
 use Rattle.redo_journal.specs.Header.{leading_number, number_bytes}
-use Rattle.object_file.specs.Slots.{Slot, Free, Holds, Broken, is_filled_slot, id_in, slot_of, slot_bytes, slot_in, SetsPlace}
+use Rattle.object_file.specs.Slots.{Free, Holds, Broken, is_filled_slot, id_in, slot_of, slot_bytes, SetsPlace}
 
 -- ---- a slot among others
 

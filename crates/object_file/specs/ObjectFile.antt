@@ -3,7 +3,6 @@ use Rattle.std.specs.Prelude.{◌≡◌, ℕ, ◌+◌, ◌/◌, ◌%◌, ◌≤�
 use Rattle.page_laws.specs.Pages.{is_live, AreFree}
 use Rattle.page_laws.specs.declared.errors.TreeError.{TreeError}
 use Rattle.page_laws.specs.declared.errors.TreeError.TheVariants as tree
-use Rattle.page_laws.specs.declared.rule.Rule.{Rule}
 use Rattle.page_laws.specs.declared.rule.Rule.TheVariants as rule
 use Rattle.redo_journal.specs.declared.layout.TheConstants.{FIRST_HOME}
 use Rattle.object_file.specs.declared.slots.SlotHead.{SlotHead}

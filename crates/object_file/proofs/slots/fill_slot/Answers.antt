@@ -1,4 +1,4 @@
-use Rattle.std.proofs.Common.{◌≡◌, ◌-◌, ◌++◌, length, replicate, ◌∙◌, refl, arith}
+use Rattle.std.proofs.Common.{◌-◌, ◌++◌, length, replicate, ◌∙◌, refl, arith}
 use Rattle.object_file.proofs.SlotBytes.{sets_filled}
 use Rattle.object_file.proofs.slots.fill_slot.Goals as goal
 

@@ -1,5 +1,4 @@
-use Rattle.std.proofs.Common.{ℕ, ◌≤◌, length, arith}
-use Rattle.object_file.specs.ObjectFile.{Slots}
+use Rattle.std.proofs.Common.{◌≤◌, length, arith}
 use Rattle.object_file.proofs.FreeSlots.{fits}
 use Rattle.object_file.proofs.file.ObjectFile.free_slots.Goals as goal
 

@@ -1,4 +1,4 @@
-use Rattle.std.proofs.Common.{rules, ◌≡◌, ℕ, ◌<◌, ◌≤◌, List, [], ◌∷◌, ◌++◌, IsTrue, length, sym, subst, ◌∙◌, arith}
+use Rattle.std.proofs.Common.{rules, ◌<◌, IsTrue, length, sym, subst}
 use Rattle.page_laws.specs.FreeLaws.{given_free, last_first}
 use Rattle.object_file.specs.ObjectFile.{Slots, is_filled}
 use Rattle.object_file.proofs.FreeSlots.{fits_one}

@@ -1,7 +1,7 @@
-use Rattle.std.proofs.Common.{rules, ◌≡◌, ℕ, ◌-◌, ◌<◌, [], ◌∷◌, ◌++◌, length, vec_len, slice_index, subst, arith}
+use Rattle.std.proofs.Common.{rules, ◌≡◌, ◌-◌, ◌<◌, length, vec_len, slice_index, subst}
 use Rattle.page_laws.specs.Pages.{AreFree}
 use Rattle.page_laws.specs.FreeLaws.{taken_free, last_first}
-use Rattle.object_file.specs.ObjectFile.{Slots, is_slot}
+use Rattle.object_file.specs.ObjectFile.{is_slot}
 use Rattle.object_file.proofs.FreeSlots.{popped, last_slot}
 use Rattle.object_file.proofs.file.ObjectFile.slot_put.Goals as goal
 
