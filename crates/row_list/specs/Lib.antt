@@ -1,0 +1,4 @@
+pub mod ListLaws
+pub mod Lists
+pub mod Members
+pub mod Slotted
