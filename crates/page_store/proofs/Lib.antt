@@ -1,0 +1,4 @@
+pub mod Changing
+pub mod Staging
+pub mod Same
+pub mod Worked
