@@ -1,5 +1,5 @@
 -- The marks of free numbers, and how many there may be.
-use Rattle.std.proofs.Common.{◌≡◌, ◌⊎◌, inl, inr, ℕ, ◌+◌, ◌-◌, ◌≤◌, ◌<◌, ◌==◌, Bool, true, false, not, ◌&&◌, ◌||◌, IsTrue, List, [], ◌∷◌, ◌++◌, length, refl, sym, ap, subst, ◌∙◌, arith, slice_index, slice_index_or, slice_set, take, drop, replicate, suc}
+use Rattle.std.proofs.Common.{◌≡◌, inl, inr, ℕ, ◌+◌, ◌-◌, ◌≤◌, ◌<◌, ◌==◌, Bool, true, false, not, ◌&&◌, ◌||◌, IsTrue, List, [], ◌∷◌, ◌++◌, length, refl, sym, ap, subst, ◌∙◌, arith, slice_index, slice_index_or, slice_set, take, drop, replicate, suc}
 use Rattle.std.specs.Prelude.{nat_le, nat_lt}
 use Rattle.std.specs.List.{AllByRecursion, IsDistinct}
 use Rattle.std.proofs.lemmas.Bool.{cases_eq, and_parts, false≢true}
@@ -156,6 +156,13 @@ taken first n old new marks all numbers is room list =
       marked = taken_marked first n marks numbers inside.0 inside.1 (subst (IsMarked first marks) is list.marked) (not_true (is_among n numbers) live.1);
       room = omega (arith, long, room);
     }
+
+-- which is live then
+pub last_live : (first n : ℕ) (marks : List Bool) (all numbers : List ℕ) → all ≡ numbers ++ n ∷ [] → AreFree (is_within first (length marks)) all
+    → IsTrue (is_live (is_within first (length (slice_set marks (n - first) false))) numbers n)
+last_live first n marks all numbers is are =
+    subst (λ m. IsTrue (is_live (is_within first m) numbers n)) (sym (length-set marks (n - first) false))
+    (next_live (is_within first (length marks)) numbers [] n (subst (AreFree (is_within first (length marks))) is are))
 
 -- a live one is given
 pub given : (first n old new : ℕ) (marks : List Bool) (all numbers : List ℕ) → all ≡ numbers ++ n ∷ [] → length marks ≤ new

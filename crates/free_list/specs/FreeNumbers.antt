@@ -1,5 +1,5 @@
 -- The free numbers of a range.
-use Rattle.std.specs.Prelude.{◌≡◌, ℕ, ◌+◌, ◌≤◌, ◌<◌, Bool, true, false, ◌&&◌, nat_le, nat_lt, List, length, slice_index_or}
+use Rattle.std.specs.Prelude.{◌≡◌, ℕ, ◌+◌, ◌≤◌, ◌<◌, Bool, false, ◌&&◌, nat_le, nat_lt, List, length, slice_index_or}
 use Rattle.page_laws.specs.Pages.{is_among, AreFree}
 
 -- the first number of the range, how many it has, and those that are free

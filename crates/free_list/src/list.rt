@@ -47,6 +47,7 @@ impl FreeList {
     pub fn take(&mut self) -> u32
         requires some { 0 < length self.old.numbers }
         ensures taken { self.old.numbers ≡ self.new.numbers ++ result ∷ [] }
+        ensures live { IsTrue (is_live (is_within self.new.first self.new.count) self.new.numbers result) }
         ensures range { (self.new.first ≡ self.old.first) × (self.new.count ≡ self.old.count) }
         ensures free { AreFree (is_within self.old.first self.old.count) self.old.numbers × AreFree (is_within self.new.first self.new.count) self.new.numbers }
     {

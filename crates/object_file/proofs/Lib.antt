@@ -1,3 +1,2 @@
 pub mod SlotBytes
-pub mod FreeSlots
 pub mod Worked

@@ -1,6 +1,7 @@
 -- The slots of a file.
 use Rattle.std.specs.Prelude.{◌≡◌, ℕ, ◌+◌, ◌/◌, ◌%◌, ◌≤◌, ◌<◌, nat_lt, Bool, IsTrue, List, Result, Ok, Err}
-use Rattle.page_laws.specs.Pages.{is_live, AreFree}
+use Rattle.page_laws.specs.Pages.{is_live}
+use Rattle.free_list.specs.FreeNumbers.{FreeNumbers}
 use Rattle.page_laws.specs.declared.errors.TreeError.{TreeError}
 use Rattle.page_laws.specs.declared.errors.TreeError.TheVariants as tree
 use Rattle.page_laws.specs.declared.rule.Rule.TheVariants as rule
@@ -22,11 +23,14 @@ is_slot cap slot = nat_lt slot cap
 abbrev pub is_filled : Slots → ℕ → Bool
 is_filled s slot = is_live (is_slot s.cap) s.free slot
 
--- the free slots are slots, none is there twice, and there is room for all
-pub record AreSlots (s : Slots) (capacity : ℕ) : Type 0 where
-  pub few : s.cap ≤ 65536
-  pub free : AreFree (is_slot s.cap) s.free
-  pub room : s.cap ≤ capacity
+-- the slots that a list of free numbers stands for
+abbrev pub slots_of : FreeNumbers → Slots
+slots_of l = record { cap = l.count; free = l.numbers }
+
+-- the slots are numbered from 0 on, and there are at most 65536
+pub record AreSlots (l : FreeNumbers) : Type 0 where
+  pub from : l.first ≡ 0
+  pub few : l.count ≤ 65536
 
 -- the page of a slot
 abbrev pub slot_page : ℕ → ℕ

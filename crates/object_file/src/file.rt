@@ -5,10 +5,12 @@ ghost use Rattle.page_laws.specs.Errors.{CountsFault, CountsTreeFault};
 ghost use Rattle.page_laws.specs.Pages.{risen, AreFree, JoinsAtMost};
 ghost use Rattle.object_file.specs.declared.slots.TheConstants.{OBJECT_LIMIT, COLLECTIONS};
 ghost use Rattle.object_file.specs.Slots.{Slot, Free, Holds};
+ghost use Rattle.object_file.specs.Calls.{PagesContinue};
 ghost use Rattle.object_file.specs.ObjectFile as words;
 ghost use Rattle.object_file.specs.ObjectFile.{is_slot, slot_at, HasSlots, SetsSlot, Gives, NamesSlot};
 
 use crate::slots::{SlotContent, SlotHead, fill_slot, free_slot, read_slot};
+use free_list::FreeList;
 use page_laws::{PAGE_SIZE, PageError, Pages, Rule, TreeError};
 use redo_journal::layout::FIRST_HOME;
 use spb_edge::{Bytes, Memory};
@@ -20,7 +22,6 @@ pub const SLOTS_PER_PAGE: u32 = 4;
 
 /// The page of a slot. The first four are in the page after the journal.
 pub fn slot_page(slot: u32) -> u32
-    requires { slot < 65536 }
     ensures { result ≡ words.slot_page slot }
 {
     FIRST_HOME + slot / SLOTS_PER_PAGE
@@ -29,19 +30,17 @@ pub fn slot_page(slot: u32) -> u32
 /// The slots of a file, with those that are free. Its memory is taken when it is made.
 #[derive(Debug, Drop)]
 pub struct ObjectFile {
-    cap: u32,
-    free: Vec<u32>,
+    free: FreeList,
 }
 
 impl Model for ObjectFile {
-    ghost use Rattle.std.specs.Prelude.{vec_capacity};
-    ghost use Rattle.object_file.specs.ObjectFile.{Slots, AreSlots};
+    ghost use Rattle.object_file.specs.ObjectFile.{Slots, AreSlots, slots_of};
 
     ghost Value = { Slots };
 
-    ghost view = { λ f. record { cap = f.cap; free = f.free.items } };
+    ghost view = { λ f. slots_of f.free };
 
-    ghost invariant = { λ f. AreSlots (record { cap = f.cap; free = f.free.items }) (vec_capacity f.free) };
+    ghost invariant = { λ f. AreSlots f.free };
 }
 
 impl ObjectFile {
@@ -51,9 +50,8 @@ impl ObjectFile {
         requires free { AreFree (is_slot cap) free.now }
         ensures { IfOk result (λ file. file ≡ record { cap = cap; free = free.now }) }
     {
-        let mut slots = Vec::with_capacity(alloc, cap as usize)?;
-        slots.extend_from_slice(free)?;
-        Ok(ObjectFile { cap, free: slots })
+        let free = FreeList::new(alloc, 0, cap, free)?;
+        Ok(ObjectFile { free })
     }
 
     /// Puts an object of at most 120 bytes into a free slot, and answers which. It reads and puts one
@@ -76,18 +74,18 @@ impl ObjectFile {
         ensures err { OnErr result (self.new ≡ self.old) }
         ensures cap { self.new.cap ≡ self.old.cap }
         ensures put { IfOk result (λ slot. JoinsAtMost (words.slot_page slot) (P.put_pages pages.old) (P.put_pages pages.new)) }
-        ensures told { P.is_known pages.new ≡ P.is_known pages.old }
-        ensures map { (P.has pages.new ≡ P.has pages.old) × (P.in_pool pages.new ≡ P.in_pool pages.old) }
-        ensures free { P.free pages.new ≡ P.free pages.old }
-        ensures open { P.is_open pages.new ≡ P.is_open pages.old }
+        ensures continues { PagesContinue P.is_known P.has P.in_pool P.free P.is_open P.calm pages.old pages.new }
         ensures fetches { P.fetches pages.new ≡ risen (P.fetches pages.old) 1 }
         ensures fault { CountsFault result (P.faults pages.old) (P.faults pages.new) }
-        ensures calm { P.calm pages.old pages.new }
     {
-        let slot = self.free[self.free.len() - 1];
-        put_filled(pages, slot, head, object)?;
-        self.free.pop();
-        Ok(slot)
+        let slot = self.free.take();
+        match put_filled(pages, slot, head, object) {
+            Ok(()) => Ok(slot),
+            Err(e) => {
+                self.free.give(slot);
+                Err(e)
+            }
+        }
     }
 
     /// Replaces the bytes of `object` by the object in a slot. Damaged with the slot's page comes exactly
@@ -103,15 +101,11 @@ impl ObjectFile {
         ensures gives { IsTrue (P.is_known pages.old) → Gives (slot_at (P.page_at pages.old) slot) (words.slot_page slot) result object.new }
         ensures damaged { NamesSlot (words.slot_page slot) result }
         ensures fetches { OnOk result (P.fetches pages.new ≡ risen (P.fetches pages.old) 1) }
-        ensures told { P.is_known pages.new ≡ P.is_known pages.old }
         ensures pages { IsTrue (P.is_known pages.old) → P.page_at pages.new ≡ P.page_at pages.old }
-        ensures map { (P.has pages.new ≡ P.has pages.old) × (P.in_pool pages.new ≡ P.in_pool pages.old) }
-        ensures free { P.free pages.new ≡ P.free pages.old }
-        ensures open { (P.is_open pages.new ≡ P.is_open pages.old) × (P.put_pages pages.new ≡ P.put_pages pages.old) }
+        ensures continues { PagesContinue P.is_known P.has P.in_pool P.free P.is_open P.calm pages.old pages.new }
+        ensures put { P.put_pages pages.new ≡ P.put_pages pages.old }
         ensures fault { CountsTreeFault result (P.faults pages.old) (P.faults pages.new) }
-        ensures calm { P.calm pages.old pages.new }
     {
-        let _ = &self.cap;
         let n = slot_page(slot);
         let mut page = [0; PAGE_SIZE];
         pages.get(n, &mut page)?;
@@ -140,19 +134,12 @@ impl ObjectFile {
         ensures err { OnErr result (self.new ≡ self.old) }
         ensures cap { self.new.cap ≡ self.old.cap }
         ensures put { OnOk result (JoinsAtMost (words.slot_page slot) (P.put_pages pages.old) (P.put_pages pages.new)) }
-        ensures told { P.is_known pages.new ≡ P.is_known pages.old }
-        ensures map { (P.has pages.new ≡ P.has pages.old) × (P.in_pool pages.new ≡ P.in_pool pages.old) }
-        ensures free { P.free pages.new ≡ P.free pages.old }
-        ensures open { P.is_open pages.new ≡ P.is_open pages.old }
+        ensures continues { PagesContinue P.is_known P.has P.in_pool P.free P.is_open P.calm pages.old pages.new }
         ensures fetches { P.fetches pages.new ≡ risen (P.fetches pages.old) 1 }
         ensures fault { CountsFault result (P.faults pages.old) (P.faults pages.new) }
-        ensures calm { P.calm pages.old pages.new }
     {
-        let _ = &self.cap;
         put_free(pages, slot)?;
-        let Ok(()) = self.free.push(slot) else {
-            unreachable!()
-        };
+        self.free.give(slot);
         Ok(())
     }
 
@@ -160,7 +147,7 @@ impl ObjectFile {
     pub fn is_filled(&self, slot: u32) -> bool
         ensures { result ≡ words.is_filled self.now slot }
     {
-        slot < self.cap && !self.free.contains(&slot)
+        self.free.is_live(slot)
     }
 
     /// How many slots are free.
@@ -168,7 +155,7 @@ impl ObjectFile {
         ensures count { result ≡ length self.now.free }
         ensures free { AreFree (is_slot self.now.cap) self.now.free }
     {
-        self.free.len() as u32
+        self.free.len()
     }
 }
 
@@ -179,7 +166,6 @@ fn put_filled<P: Pages>(
     head: SlotHead,
     object: &[u8],
 ) -> Result<(), PageError>
-    requires slot { slot < 65536 }
     requires there { IsTrue (P.has pages.old (words.slot_page slot)) }
     requires open { IsTrue (P.is_open pages.old) }
     requires few { length (P.put_pages pages.old) ≤ 40 }
@@ -188,13 +174,9 @@ fn put_filled<P: Pages>(
     ensures slot { IsTrue (P.is_known pages.old)
         → OnOk result (SetsSlot slot (Holds head.collection head.id object.now) (P.page_at pages.old) (P.page_at pages.new)) }
     ensures put { OnOk result (JoinsAtMost (words.slot_page slot) (P.put_pages pages.old) (P.put_pages pages.new)) }
-    ensures told { P.is_known pages.new ≡ P.is_known pages.old }
-    ensures map { (P.has pages.new ≡ P.has pages.old) × (P.in_pool pages.new ≡ P.in_pool pages.old) }
-    ensures free { P.free pages.new ≡ P.free pages.old }
-    ensures open { P.is_open pages.new ≡ P.is_open pages.old }
+    ensures continues { PagesContinue P.is_known P.has P.in_pool P.free P.is_open P.calm pages.old pages.new }
     ensures fetches { P.fetches pages.new ≡ risen (P.fetches pages.old) 1 }
     ensures fault { CountsFault result (P.faults pages.old) (P.faults pages.new) }
-    ensures calm { P.calm pages.old pages.new }
 {
     let n = slot_page(slot);
     let mut page = [0; PAGE_SIZE];
@@ -206,19 +188,14 @@ fn put_filled<P: Pages>(
 
 /// Frees a slot of the pages.
 fn put_free<P: Pages>(pages: &mut P, slot: u32) -> Result<(), PageError>
-    requires slot { slot < 65536 }
     requires there { IsTrue (P.has pages.old (words.slot_page slot)) }
     requires open { IsTrue (P.is_open pages.old) }
     requires few { length (P.put_pages pages.old) ≤ 40 }
     ensures slot { IsTrue (P.is_known pages.old) → OnOk result (SetsSlot slot Free (P.page_at pages.old) (P.page_at pages.new)) }
     ensures put { OnOk result (JoinsAtMost (words.slot_page slot) (P.put_pages pages.old) (P.put_pages pages.new)) }
-    ensures told { P.is_known pages.new ≡ P.is_known pages.old }
-    ensures map { (P.has pages.new ≡ P.has pages.old) × (P.in_pool pages.new ≡ P.in_pool pages.old) }
-    ensures free { P.free pages.new ≡ P.free pages.old }
-    ensures open { P.is_open pages.new ≡ P.is_open pages.old }
+    ensures continues { PagesContinue P.is_known P.has P.in_pool P.free P.is_open P.calm pages.old pages.new }
     ensures fetches { P.fetches pages.new ≡ risen (P.fetches pages.old) 1 }
     ensures fault { CountsFault result (P.faults pages.old) (P.faults pages.new) }
-    ensures calm { P.calm pages.old pages.new }
 {
     let n = slot_page(slot);
     let mut page = [0; PAGE_SIZE];

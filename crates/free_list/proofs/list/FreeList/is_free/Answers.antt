@@ -1,4 +1,4 @@
-use Rattle.std.proofs.Common.{◌≡◌, sym, subst, ◌∙◌}
+use Rattle.std.proofs.Common.{sym, subst, ◌∙◌}
 use Rattle.page_laws.specs.Pages.{AreFree}
 use Rattle.free_list.specs.FreeNumbers.{FreeNumbers, is_within}
 use Rattle.free_list.proofs.Marks.{outside}

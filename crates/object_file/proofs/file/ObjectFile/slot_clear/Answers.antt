@@ -1,24 +1,9 @@
-use Rattle.std.proofs.Common.{rules, ◌<◌, IsTrue, length, sym, subst}
-use Rattle.page_laws.specs.FreeLaws.{given_free, last_first}
-use Rattle.object_file.specs.ObjectFile.{Slots, is_filled}
-use Rattle.object_file.proofs.FreeSlots.{fits_one}
+use Rattle.std.proofs.Common.{rules, ◌≡◌, [], ◌∷◌, ◌++◌, sym, subst}
+use Rattle.std.specs.List.Sorted.{IsPermutation}
+use Rattle.page_laws.specs.FreeLaws.{last_first}
 use Rattle.object_file.proofs.file.ObjectFile.slot_clear.Goals as goal
 
-pub unreachable-requires : goal.unreachable-requires
-unreachable-requires g c =
-    let filled = subst (λ (s : Slots). IsTrue (is_filled s c.args.slot)) (sym c.self.view_is) c.requires.filled in
-    let below : length c.self.inside.free.items < c.self.inside.cap =
-    fits_one c.self.inside.cap c.self.inside.free.items c.args.slot c.self.invariant.free filled in
-    search (rules, below, c.self.invariant.room)
-
-pub invariant_of-self : goal.invariant_of-self
-invariant_of-self g c =
-    let filled = subst (λ (s : Slots). IsTrue (is_filled s c.args.slot)) (sym c.self.view_is) c.requires.filled in
-    record {
-      few = c.self.invariant.few;
-      free = rw c.in-Ok.ensures.items (given_free _ _ c.args.slot c.self.invariant.free filled);
-      room = search (rules, c.push.ensures.capacity, c.self.invariant.room);
-    }
-
 pub returns-clause-freed : goal.returns-clause-freed
-returns-clause-freed g c = rw (c.in-Ok.ensures.items, ← c.self.view_is) (last_first c.self.inside.free.items c.args.slot)
+returns-clause-freed g c =
+    let is : c.give.new.self.numbers ≡ c.args.self.now.free ++ c.args.slot ∷ [] = search rules in
+    subst (λ ns. IsPermutation ns (c.args.slot ∷ c.args.self.now.free)) (sym is) (last_first c.args.self.now.free c.args.slot)
