@@ -1,3 +1,6 @@
 pub mod Layout
 pub mod Profile
 pub mod Pivots
+pub mod Stands
+pub mod Damage
+pub mod Opened

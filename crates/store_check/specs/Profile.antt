@@ -1,5 +1,5 @@
 -- The profile page, by what each field reads as.
-use Rattle.std.specs.Prelude.{◌≡◌, ℕ, ◌+◌, ◌-◌, ◌*◌, ◌==◌, nat_le, Bool, true, false, not, ◌&&◌, if◌then◌else◌, List, []}
+use Rattle.std.specs.Prelude.{◌≡◌, ℕ, ◌+◌, ◌-◌, ◌*◌, ◌==◌, nat_le, ◌≤◌, ◌<◌, IsTrue, All, length, slice_index_or, Bool, true, false, not, ◌&&◌, if◌then◌else◌, List, []}
 use Rattle.std.specs.Prelude.{◌∷◌, take, drop, slice_index, Option, Some, None, option_and_then, Result, Ok, Err}
 use Rattle.byteorder.specs.Endian.{big_number}
 use Rattle.metrics_builtin.specs.declared.Space.{Space}
@@ -11,6 +11,7 @@ use Rattle.page_laws.specs.Pages.{are_zero}
 use Rattle.redo_journal.specs.Header.{leading_number}
 use Rattle.spb_defs.specs.declared.CurveKind.{CurveKind}
 use Rattle.spb_defs.specs.declared.CurveKind.TheVariants.{Z, Hilbert}
+use Rattle.store_check.specs.declared.layout.TheConstants.{CAP_LIMIT}
 use Rattle.store_check.specs.declared.profile.Profile.{Profile}
 use Rattle.store_check.specs.declared.profile.ProfileFault.{ProfileFault}
 use Rattle.store_check.specs.declared.profile.ProfileFault.TheVariants.{NoFormat, BadField}
@@ -131,3 +132,24 @@ abbrev pub Reads : List ℕ → Result Profile ProfileFault → Type 0
 Reads page (Ok profile) = profile_in page ≡ Some profile
 Reads page (Err NoFormat) = is_format (format_in page) ≡ false
 Reads page (Err BadField) = (is_format (format_in page) ≡ true) × (profile_in page ≡ None)
+
+-- the root of the empty tree
+abbrev pub no_root : Root
+no_root = record { page = 0; height = 0 }
+
+-- eight roots that trees may have, those of the curve trees first; the two trees of a collection are both empty, or neither is
+pub record AreRoots (roots : List Root) : Type 0 where
+  pub eight : length roots ≡ 8
+  pub each : All (λ root. IsTrue (is_root root)) roots
+  pub paired : (c : ℕ) → c < 4 → IsTrue (are_paired (slice_index_or roots c no_root) (slice_index_or roots (4 + c) no_root))
+
+-- the numbers and the roots of a profile are in their ranges
+pub record IsInRange (p : Profile) : Type 0 where
+  pub fit : IsTrue (fits p.space)
+  pub some_pivots : 1 ≤ p.pivots
+  pub few_pivots : p.pivots ≤ 8
+  pub width : p.bits ≡ bits p.space
+  pub few_bits : p.pivots * p.bits ≤ 64
+  pub some_cap : 1 ≤ p.cap
+  pub few : p.cap ≤ CAP_LIMIT
+  pub trees : AreRoots p.roots

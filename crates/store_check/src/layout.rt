@@ -4,7 +4,14 @@ ghost use Rattle.store_check.specs.declared.layout.TheConstants.{CAP_LIMIT};
 ghost use Rattle.store_check.specs.Layout as words;
 
 use object_file::SLOTS_PER_PAGE;
-use redo_journal::layout::FIRST_HOME;
+use redo_journal::layout::{FIRST_HOME, MAGIC_SIZE};
+
+/// The first bytes of a store's file.
+pub const MAGIC: [u8; MAGIC_SIZE] = *b"spbstore";
+
+/// The fewest bytes of a file that may be a store: those of the pages up to the journal's header. What is
+/// shorter is no store, whatever its bytes are.
+pub const LEAST_SIZE: u64 = 2_560;
 
 /// The most objects that a store in a file may have.
 pub const CAP_LIMIT: u32 = 65_536;

@@ -26,7 +26,7 @@ fn page_with(at: usize, byte: u8) -> [u8; 512] {
 }
 
 #[test]
-fn a_profile_is_read(rt: HostRuntime) -> Result<(), Fail> {
+fn a_profile_is_read_and_written(rt: HostRuntime) -> Result<(), Fail> {
     let none = Root { page: 0, height: 0 };
     let profile = Profile {
         space: Space::L1 { dim: 2, most: 255 },
@@ -52,6 +52,7 @@ fn a_profile_is_read(rt: HostRuntime) -> Result<(), Fail> {
         ],
     };
     assert!(rt; read_profile(&page()) == Ok(profile));
+    assert!(rt; write_profile(&profile) == page());
     Ok(())
 }
 
