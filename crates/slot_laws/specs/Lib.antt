@@ -1,0 +1,10 @@
+pub mod Ranges
+pub mod PlacedLaws
+pub mod ChangeLaws
+pub mod FreeSlots
+pub mod FreeSlotLaws
+pub mod SlotTables
+pub mod SlotTableLaws
+pub mod ReadingLaws
+pub mod UnchangedSlots
+pub mod TableRows
