@@ -1,0 +1,5 @@
+pub mod Pieces
+pub mod Slots
+pub mod Filled
+pub mod Runs
+pub mod Worked
