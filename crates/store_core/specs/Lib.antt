@@ -1,0 +1,5 @@
+pub mod Errors
+pub mod Paging
+pub mod Content
+pub mod Opening
+pub mod Parts
