@@ -1,0 +1,5 @@
+pub mod SlotRuns
+pub mod Tables
+pub mod States
+pub mod Addition
+pub mod Removal

@@ -1,0 +1,4 @@
+pub mod Errors
+pub mod SlotChange
+pub mod Store
+pub mod Answers

@@ -1,0 +1,13 @@
+//! A store in a file once it is open: what adds, removes and gives its objects.
+#![tactic(auto)]
+
+mod adding;
+mod errors;
+mod getting;
+mod lists;
+mod removing;
+mod slot_change;
+mod store;
+
+pub use errors::{ChangeError, First};
+pub use store::Store;
