@@ -1,6 +1,6 @@
 -- A store to which an object is added.
-use Rattle.std.proofs.Common.{◌≡◌, ◌≢◌, ◌⊎◌, inl, inr, ⊎_elim, ℕ, ◌+◌, ◌*◌, ◌^◌, ◌<◌, ◌≤◌, Bool, true, false, IsTrue, List, [], ◌∷◌, map, length, get_or, Option, Some, None, Result, Ok, Err, refl, sym, ap, subst, ◌∙◌, arith}
-use Rattle.std.specs.Prelude.{nat_le, nat_lt, ◌&&◌, ◌||◌, All, IsSome, slice_set, OnOk, IfOk}
+use Rattle.std.proofs.Common.{◌≡◌, inl, inr, ℕ, ◌+◌, ◌*◌, ◌^◌, ◌<◌, ◌≤◌, Bool, true, false, IsTrue, List, [], ◌∷◌, length, get_or, Option, Some, None, Result, Ok, Err, refl, sym, ap, subst, ◌∙◌, arith}
+use Rattle.std.specs.Prelude.{nat_le, ◌||◌, All, IsSome, slice_set}
 use Rattle.std.specs.List.{insert}
 use Rattle.std.specs.List.Sorted.{IsPermutation}
 use Rattle.std.specs.Option.{option_map}
@@ -9,8 +9,6 @@ use Rattle.std.proofs.lemmas.List.{length-set, length-map, get_or_default}
 use Rattle.std.proofs.lemmas.List.Sums.{get_or-le-sum_by}
 use Rattle.std.proofs.lemmas.List.Elements.{All-set}
 use Rattle.std.proofs.lemmas.List.Sorted.{length_permutation}
-use Rattle.spb_edge.specs.Crash.{IsDurable, CrashesLeaveOnly}
-use Rattle.spb_edge.specs.Moments.{weaker}
 use Rattle.metric_laws.specs.Objects.{Object, Distance}
 use Rattle.metrics_builtin.specs.Space.{IsValid}
 use Rattle.spb_defs.specs.State.{State, object_at, is_full, with_object}
@@ -22,13 +20,13 @@ use Rattle.row_list.specs.Slotted.{rows_of}
 use Rattle.row_list.specs.Lists.{ListedRows, IsListed, IsPlaceOf, IsPlaceFor, IsInOrder, slotted}
 use Rattle.row_list.specs.ListLaws.{row_with-found, row_with-absent, rows_of-slotted}
 use Rattle.row_list.specs.Members.{AreRows-insert}
-use Rattle.redo_journal.specs.Pages.{page, magic}
+use Rattle.redo_journal.specs.Pages.{page}
 use Rattle.redo_journal.specs.Redo.{RecoversTo, has_open_gate}
 use Rattle.page_store.specs.PageStore.{PagesView, is_home, in_pool, has}
 use Rattle.object_file.specs.Slots.{Holds}
 use Rattle.object_file.specs.ObjectFile.{Slots, HasSlots, slot_page, slot_at}
 use Rattle.store_check.specs.Layout.{file_pages}
-use Rattle.store_check.specs.Stands.{Stands, store_magic}
+use Rattle.store_check.specs.Stands.{store_magic}
 use Rattle.slot_laws.specs.FreeSlotLaws.{free_slots_read_as_free, filling_takes_a_free_slot}
 use Rattle.slot_laws.specs.SlotTables.{GainsRow}
 use Rattle.slot_laws.specs.SlotTableLaws.{filling_adds_a_row}
@@ -37,8 +35,8 @@ use Rattle.open_store.specs.declared.errors.First.TheVariants as errors
 use Rattle.open_store.specs.Errors.{change_error, IsUndamaged}
 use Rattle.open_store.specs.declared.errors.ChangeError.{ChangeError}
 use Rattle.open_store.specs.declared.errors.ChangeError.TheVariants as change
-use Rattle.open_store.specs.SlotChange.{HasSlotSet, HasSlotFilled, IsFilledOrNot, HasSamePool, IsReady}
-use Rattle.open_store.specs.Store.{StoreView, IsStore, IsStored, IsInState, IsTable, tables_of, table_at, row_in, slot_tables, row_count, is_full_store, measured_row, with_member}
+use Rattle.open_store.specs.SlotChange.{HasSlotSet, IsFilledOrNot, HasSamePool, IsReady}
+use Rattle.open_store.specs.Store.{StoreView, IsStore, IsInState, IsTable, tables_of, table_at, row_in, slot_tables, row_count, is_full_store, measured_row, with_member}
 use Rattle.open_store.specs.Answers.{AnswersAdd, StandsForEither}
 use Rattle.open_store.proofs.SlotRuns.{stands_for_itself}
 use Rattle.open_store.proofs.Tables.{table-at, tables-insert, rows_of-insert, All-insert, table_gains, row_count-insert}
@@ -113,8 +111,7 @@ list_grows lists c id place slot row list d e below listed at rows slots sound =
     let same = get_or_default lists c e d below in
     let is = rows_in lists c d below listed in
     let of_rows : list.rows ≡ insert (get_or lists c d).rows place row = rows ∙ ap (λ (l : ListedRows). insert l.rows place row) same in
-    let of_slots : list.slots ≡ insert (get_or lists c d).slots place slot = slots ∙ ap (λ (l : ListedRows). insert l.slots place slot) same in
-    (
+    let of_slots : list.slots ≡ insert (get_or lists c d).slots place slot = slots ∙ ap (λ (l : ListedRows). insert l.slots place slot) same in (
       subst (λ rs. IsPlaceFor rs id place) (sym is) at,
       subst IsInOrder (of_rows ∙ ap (λ rs. insert rs place row) (sym is)) sound.order,
       tables-insert lists c place slot row list d below listed at.within of_rows of_slots,

@@ -1,6 +1,6 @@
 -- A store from which an object is removed, or that gives one.
-use Rattle.std.proofs.Common.{◌≡◌, ◌⊎◌, inl, inr, ℕ, zero, suc, ◌+◌, ◌*◌, ◌<◌, ◌≤◌, Bool, true, false, IsTrue, List, [], ◌∷◌, map, length, get_or, Option, Some, None, Result, Ok, Err, refl, sym, ap, subst, ◌∙◌, arith}
-use Rattle.std.specs.Prelude.{All, IsSome, slice_set, OnOk}
+use Rattle.std.proofs.Common.{◌≡◌, inl, inr, ℕ, zero, suc, ◌+◌, ◌<◌, Bool, false, IsTrue, List, [], ◌∷◌, map, length, get_or, Option, Some, None, Result, Ok, Err, refl, sym, ap, subst, ◌∙◌, arith}
+use Rattle.std.specs.Prelude.{All, IsSome, slice_set}
 use Rattle.std.specs.List.{remove}
 use Rattle.std.specs.List.Sorted.{IsPermutation}
 use Rattle.std.specs.Map.{keys_of}
@@ -21,12 +21,11 @@ use Rattle.row_list.specs.Members.{AreRows-remove}
 use Rattle.redo_journal.specs.Pages.{page}
 use Rattle.redo_journal.specs.Redo.{RecoversTo, has_open_gate, overlay}
 use Rattle.page_laws.specs.Pages.{is_among}
-use Rattle.page_store.specs.PageStore.{PagesView, in_pool, page_at}
-use Rattle.object_file.specs.Slots.{Slot, Free, Holds}
+use Rattle.page_store.specs.PageStore.{PagesView, page_at}
+use Rattle.object_file.specs.Slots.{Free, Holds}
 use Rattle.object_file.specs.ObjectFile.{Slots, slot_page, slot_at, is_filled, SetsSlot}
-use Rattle.store_check.specs.Layout.{file_pages}
 use Rattle.store_check.specs.Profile.{profile_in}
-use Rattle.store_check.specs.Stands.{Keeps, Stands, store_magic}
+use Rattle.store_check.specs.Stands.{Keeps, store_magic}
 use Rattle.slot_laws.specs.ChangeLaws.{clearing_removes, slots_give_objects}
 use Rattle.slot_laws.specs.FreeSlots.{AreFreeSlots}
 use Rattle.slot_laws.specs.FreeSlotLaws.{clearing_frees_a_slot, filled_slots_are_live}
@@ -140,8 +139,7 @@ found_row lists c id place d below listed at =
     slotted-at rows slots place no_row e listed.same_length at.within in
     let long : length (rows_of (table_at (tables_of lists) c)) ≡ length rows = ap length (rows_in lists c d below listed) in
     let many = length-map (table_at (tables_of lists) c) (λ (r : SlottedRow). r.row) in
-    let within = at.within in
-    (
+    let within = at.within in (
       omega (arith, long, many, within),
       ap (λ t. (row_of t place).slot) table ∙ ap (λ (r : SlottedRow). r.slot) here,
       ap (λ t. (row_of t place).row.id) table ∙ ap (λ (r : SlottedRow). r.row.id) here ∙ at.is e,
@@ -155,13 +153,12 @@ pub list_shrinks : (lists : List ListedRows) (c id place : ℕ) (list d e : List
 list_shrinks lists c id place list d e below listed at rows slots sound =
     let same = get_or_default lists c e d below in
     let of_rows : list.rows ≡ remove (get_or lists c d).rows place = rows ∙ ap (λ (l : ListedRows). remove l.rows place) same in
-    let of_slots : list.slots ≡ remove (get_or lists c d).slots place = slots ∙ ap (λ (l : ListedRows). remove l.slots place) same in
-    (
+    let of_slots : list.slots ≡ remove (get_or lists c d).slots place = slots ∙ ap (λ (l : ListedRows). remove l.slots place) same in (
       subst IsInOrder (of_rows ∙ ap (λ rs. remove rs place) (sym (rows_in lists c d below listed))) sound.order,
       tables-set lists c list
-      ∙ ap (slice_set (tables_of lists) c) (ap (λ rs. slotted rs list.slots) of_rows ∙ ap (slotted (remove (get_or lists c d).rows place)) of_slots
-      ∙ slotted-remove (get_or lists c d).rows (get_or lists c d).slots place listed.same_length at.within
-      ∙ ap (λ table. remove table place) (sym (table-at lists c d below))),
+          ∙ ap (slice_set (tables_of lists) c) (ap (λ rs. slotted rs list.slots) of_rows ∙ ap (slotted (remove (get_or lists c d).rows place)) of_slots
+          ∙ slotted-remove (get_or lists c d).rows (get_or lists c d).slots place listed.same_length at.within
+          ∙ ap (λ table. remove table place) (sym (table-at lists c d below))),
     )
 
 module _ {D M : Type 0} (is_known : D → Bool) (image : D → List ℕ) (admitted : M → Object → Type 0) (dist : M → Distance) (v : StoreView D M)

@@ -1,5 +1,5 @@
 -- One slot set in a change of its own: what its crashes leave.
-use Rattle.std.proofs.Common.{◌≡◌, inl, inr, ⊎_elim, ℕ, ◌*◌, ◌≤◌, Bool, false, if◌then◌else◌, IsTrue, List, [], ◌∷◌, length, refl, sym, ap, subst, ◌∙◌, true≢false}
+use Rattle.std.proofs.Common.{◌≡◌, inl, inr, ⊎_elim, ℕ, ◌*◌, ◌≤◌, Bool, false, if◌then◌else◌, IsTrue, List, [], ◌∷◌, length, refl, sym, ap, subst, ◌∙◌}
 use Rattle.std.specs.List.Sorted.{IsPermutation}
 use Rattle.std.proofs.lemmas.Bool.{false≢true}
 use Rattle.spb_edge.specs.Crash.{Includes, IsDurable, CrashesLeaveOnly}
@@ -91,8 +91,8 @@ module _ {D : Type 0} (is_known knows_crashes : D → Bool) (size_of : D → ℕ
   set_now old mid new total t slot content none staged before same quiet commits is_none is_before sets closed = λ known marks stands.
       let at : image mid ≡ image old = quiet.image_is known in
       let all : (n : ℕ) → n ≡ total → RecoversTo n (image mid) marks (page (image old)) = λ n is.
-          subst (λ m. RecoversTo m (image mid) marks (page (image old))) (sym is)
-          (subst (λ (i : List ℕ). RecoversTo total i marks (page (image old))) (sym at) stands) in
+      subst (λ m. RecoversTo m (image mid) marks (page (image old))) (sym is)
+      (subst (λ (i : List ℕ). RecoversTo total i marks (page (image old))) (sym at) stands) in
       slot_is_set total slot content marks (image old) (image new) staged
       (staged_slot slot content (image old) before (image mid) none staged is_none (is_before known) at (sets known))
       (subst (λ n. RecoversTo n (image new) marks (overlay staged (page (image old)))) same

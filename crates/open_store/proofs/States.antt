@@ -1,10 +1,7 @@
 -- A store that stands for a state, before and after a slot is set.
-use Rattle.std.proofs.Common.{◌≡◌, ◌≢◌, ◌⊎◌, inl, inr, ℕ, ◌+◌, ◌*◌, ◌/◌, ◌%◌, ◌^◌, ◌<◌, ◌≤◌, Bool, true, false, IsTrue, List, [], ◌∷◌, map, length, Option, Some, None, refl, sym, ap, subst, ◌∙◌, arith}
-use Rattle.std.specs.Prelude.{nat_le, nat_lt, ◌&&◌, ◌||◌, All, IsSome, slice_set}
-use Rattle.std.specs.List.{insert}
+use Rattle.std.proofs.Common.{◌≡◌, ℕ, ◌+◌, ◌*◌, ◌/◌, ◌%◌, ◌^◌, ◌<◌, ◌≤◌, Bool, false, IsTrue, List, ◌∷◌, length, Some, None, sym, ap, subst, ◌∙◌, arith}
+use Rattle.std.specs.Prelude.{nat_le, nat_lt, ◌&&◌}
 use Rattle.std.specs.List.Sorted.{IsPermutation}
-use Rattle.std.specs.Map.{lookup}
-use Rattle.std.specs.BTreeMap.{is_at}
 use Rattle.std.specs.Option.{option_map}
 use Rattle.std.proofs.lemmas.Bool.Decides.{nat_tests}
 use Rattle.std.proofs.lemmas.Option.{same_Some}
@@ -12,31 +9,28 @@ use Rattle.metrics_builtin.specs.declared.Space.{Space}
 use Rattle.metrics_builtin.specs.declared.Space.TheVariants.{L1, LInf, Hamming, Sets}
 use Rattle.metrics_builtin.specs.Space.{fits, IsValid}
 use Rattle.metrics_builtin.specs.VectorLaws.{length-IsVector, length-object_of_components}
-use Rattle.spb_defs.specs.State.{State, Members, key_cmp, object_at, is_full, with_object, without_object}
+use Rattle.spb_defs.specs.State.{State, Members, object_at, is_full, with_object}
 use Rattle.pivot_map.specs.declared.row.Row.{Row}
-use Rattle.row_list.specs.declared.sorting.SlottedRow.{SlottedRow}
-use Rattle.redo_journal.specs.Pages.{page, magic, IsHome}
+use Rattle.redo_journal.specs.Pages.{page, IsHome}
 use Rattle.redo_journal.specs.Redo.{RecoversTo, has_open_gate}
 use Rattle.page_laws.specs.Pages.{is_among}
-use Rattle.page_store.specs.PageStore.{PagesView, in_pool, is_home, has}
-use Rattle.object_file.specs.Slots.{Slot, Free, Holds, slot_in}
-use Rattle.object_file.specs.ObjectFile.{slot_page, slot_at, SetsSlot, HasSlots}
+use Rattle.page_store.specs.PageStore.{PagesView, in_pool, has}
+use Rattle.object_file.specs.Slots.{Slot, Holds, slot_in}
+use Rattle.object_file.specs.ObjectFile.{slot_at, SetsSlot}
 use Rattle.store_check.specs.declared.profile.Profile.{Profile}
 use Rattle.store_check.specs.Layout.{file_pages}
 use Rattle.store_check.specs.Profile.{profile_in}
-use Rattle.store_check.specs.Pivots.{pivot_at, pivot_of, HasPivots}
-use Rattle.store_check.specs.Stands.{Keeps, Stands, IsProfiled, HoldsMembers, store_magic}
-use Rattle.slot_laws.specs.ChangeLaws.{filling_adds, clearing_removes}
+use Rattle.store_check.specs.Pivots.{pivot_of, HasPivots}
+use Rattle.store_check.specs.Stands.{Keeps, Stands, HoldsMembers, store_magic}
+use Rattle.slot_laws.specs.ChangeLaws.{filling_adds}
 use Rattle.slot_laws.specs.FreeSlots.{AreFreeSlots}
-use Rattle.slot_laws.specs.FreeSlotLaws.{free_slots_read_as_free, filling_takes_a_free_slot, clearing_frees_a_slot, slots_are_counted}
-use Rattle.slot_laws.specs.SlotTables.{AreTablesOf, GainsRow}
-use Rattle.slot_laws.specs.SlotTableLaws.{filling_adds_a_row, clearing_takes_a_row}
+use Rattle.slot_laws.specs.FreeSlotLaws.{free_slots_read_as_free, slots_are_counted}
+use Rattle.slot_laws.specs.SlotTables.{AreTablesOf}
 use Rattle.slot_laws.specs.UnchangedSlots.{same_slots_have_the_same_tables, same_slots_are_free}
 use Rattle.store_check.proofs.Standing.{moved, slot_same, home_profile}
-use Rattle.open_store.specs.SlotChange.{HasSlotSet, HasSlotFilled, IsFilledOrNot, IsSetOrNot, HasSamePool}
-use Rattle.open_store.specs.Store.{StoreView, IsStore, IsStored, IsInState, slot_tables, row_in, is_full_store, row_count, with_member, without_member}
-use Rattle.open_store.specs.Answers.{StandsForEither}
-use Rattle.open_store.proofs.SlotRuns.{has_its_pages}
+use Rattle.open_store.specs.SlotChange.{HasSlotSet, HasSlotFilled, HasSamePool}
+use Rattle.open_store.specs.Store.{StoreView, IsStored, IsInState, slot_tables, row_in, is_full_store, row_count, with_member}
+use Rattle.open_store.proofs.SlotRuns.{stands_for_itself, has_its_pages}
 use Rattle.open_store.proofs.Tables.{object_is}
 
 -- an object of a space fits into a slot
@@ -88,6 +82,24 @@ module _ (slot : ℕ) (content : Slot) (old new : ℕ → List ℕ) (sets : Sets
     roots = keeps.roots;
     members = holds;
   }
+
+-- ---- images
+
+pub stored_stands : (image : List ℕ) (s : State) → IsStored image s → Stands image s
+stored_stands image s stored = record {
+  home = page image;
+  has = subst (λ marks. RecoversTo (file_pages s.cap) image marks (page image)) stored.marks_are
+      (stands_for_itself (file_pages s.cap) image (omega arith) stored.size stored.closed);
+  keeps = stored.keeps;
+}
+
+pub standing_is_stored : (image : List ℕ) (s : State) → Stands image s → has_open_gate image ≡ false → IsStored image s
+standing_is_stored image s stands closed = record {
+  size = stands.has.size;
+  marks_are = stands.has.marks_are;
+  closed = closed;
+  keeps = moved stands.home (page image) s stands.keeps (has_its_pages (file_pages s.cap) image store_magic stands.home stands.has closed);
+}
 
 -- ---- a store that stands for a state
 

@@ -1,37 +1,33 @@
 -- The rows of a store, as the slots have them, and as the members of a state.
-use Rattle.std.proofs.Common.{◌≡◌, ℕ, zero, suc, ◌+◌, ◌<◌, ◌≤◌, List, [], ◌∷◌, map, length, take, get_or, All, Option, Some, None, refl, sym, ap, subst, ◌∙◌, arith}
-use Rattle.std.specs.Prelude.{◌^◌, slice_set, sum_by}
-use Rattle.std.specs.List.{insert, remove}
+use Rattle.std.proofs.Common.{◌≡◌, ℕ, zero, suc, ◌+◌, ◌<◌, ◌≤◌, List, [], ◌∷◌, map, length, take, get_or, All, refl, sym, ap, subst, ◌∙◌, arith}
+use Rattle.std.specs.Prelude.{slice_set}
+use Rattle.std.specs.List.{insert}
 use Rattle.std.specs.List.Sorted.{IsPermutation}
 use Rattle.std.specs.Map.{lookup}
 use Rattle.std.specs.BTreeMap.{is_at}
 use Rattle.std.specs.Option.{option_map}
 use Rattle.std.proofs.lemmas.List.{map-set, length-map, set-get_or}
-use Rattle.std.proofs.lemmas.List.Elements.{All-cons, All-set}
+use Rattle.std.proofs.lemmas.List.Elements.{All-cons}
 use Rattle.std.proofs.lemmas.List.Sorted.{IsPermutation-sym, IsPermutation-map, All-permutation, length_permutation}
 use Rattle.std.proofs.lemmas.List.Sums.{sum_by-set, sum_by-cons}
-use Rattle.metric_laws.specs.Objects.{Object, Distance}
 use Rattle.metrics_builtin.specs.declared.Space.{Space}
-use Rattle.spb_defs.specs.Pivots.{cells_of}
 use Rattle.spb_defs.specs.State.{Members, key_cmp, member_count, entries_in}
 use Rattle.scan_laws.specs.Members.{entries_in-members_of, member_count-members_of}
 use Rattle.scan_laws.specs.Tables as members
 use Rattle.scan_laws.specs.Tables.{object_with_id, members_of}
 use Rattle.scan_laws.specs.Entries.{object_with_id-map}
 use Rattle.pivot_map.specs.declared.row.Row.{Row}
-use Rattle.pivot_map.specs.Rows.{entry_of, entries_of, AreRows}
-use Rattle.row_table.specs.Tables.{row_with}
+use Rattle.pivot_map.specs.Rows.{entry_of, entries_of}
 use Rattle.row_list.specs.declared.sorting.SlottedRow.{SlottedRow}
 use Rattle.row_list.specs.Slotted.{rows_of}
-use Rattle.row_list.specs.Lists.{ListedRows, IsListed, IsPlaceFor, slotted}
-use Rattle.row_list.specs.ListLaws.{insert-permutation, rows_of-slotted, slotted-insert}
-use Rattle.row_list.specs.Members.{AreRows-insert}
+use Rattle.row_list.specs.Lists.{ListedRows, IsListed, slotted}
+use Rattle.row_list.specs.ListLaws.{insert-permutation, slotted-insert}
 use Rattle.store_check.specs.Stands.{HoldsMembers}
 use Rattle.slot_laws.specs.SlotTables.{SlotRow, slot_table, AreTablesOf, GainsRow}
 use Rattle.slot_laws.specs.SlotTables as tables
 use Rattle.slot_laws.specs.TableRows.{entries_of_table, tables_find_objects, gains_row}
 use Rattle.slot_laws.specs.SlotTableLaws.{tables_give_members}
-use Rattle.open_store.specs.Store.{tables_of, table_at, row_in, slot_row, slot_tables, row_count, IsTable}
+use Rattle.open_store.specs.Store.{tables_of, table_at, row_in, slot_row, slot_tables, row_count}
 
 -- ---- the rows as the slots have them
 

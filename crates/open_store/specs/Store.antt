@@ -20,7 +20,7 @@ use Rattle.object_file.specs.ObjectFile.{Slots, slot_at}
 use Rattle.store_check.specs.declared.profile.Profile.{Profile}
 use Rattle.store_check.specs.Layout.{slot_pages, pool_pages, file_pages}
 use Rattle.store_check.specs.Profile.{profile_in, IsInRange}
-use Rattle.store_check.specs.Stands.{Keeps, Stands, store_magic}
+use Rattle.store_check.specs.Stands.{Keeps, store_magic}
 use Rattle.slot_laws.specs.FreeSlots.{AreFreeSlots}
 use Rattle.slot_laws.specs.SlotTables.{SlotRow, AreTablesOf}
 use Rattle.open_store.specs.declared.errors.First.{First}

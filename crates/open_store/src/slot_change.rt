@@ -94,6 +94,5 @@ pub(crate) fn clear_slot<D: Disk>(
 {
     pages.begin();
     objects.slot_clear(pages, slot)?;
-    pages.commit()?;
-    Ok(())
+    Ok(pages.commit()?)
 }

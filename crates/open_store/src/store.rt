@@ -108,13 +108,7 @@ impl<'a, D: Disk, M: Metric> Store<'a, D, M> {
     /// many objects as it may have. `DiskFault` comes only if the disk counted a fault in this call. The memory that it
     /// takes, it takes before the first device call. It measures the distance to each pivot, and makes one change of one
     /// page; the row is put in its place in time in the number of rows behind it.
-    pub fn add(
-        &mut self,
-        alloc: Global,
-        c: u8,
-        id: u32,
-        object: &[u8],
-    ) -> Result<(), ChangeError>
+    pub fn add(&mut self, alloc: Global, c: u8, id: u32, object: &[u8]) -> Result<(), ChangeError>
         requires collection { c < 4 }
         requires object { M.admitted self.old.metric object.now }
         ensures spends { Spends self.old.spent result self.old self.new self.new.spent }

@@ -1,6 +1,6 @@
 //! Stores of at most three strings of four bytes, over disks of as many pages as theirs.
-ghost use Rattle.std.specs.Prelude.{◌≡◌, ◌<◌, None, IfOk};
-ghost use Rattle.metrics_builtin.specs.Space.{IsValid};
+ghost use Rattle.std.specs.Prelude.{◌≡◌, [], ◌∷◌, IfOk};
+ghost use Rattle.metrics_builtin.specs.declared.Space.{Space};
 ghost use Rattle.store_check.specs.Profile.{IsInRange};
 
 use super::*;
@@ -53,14 +53,7 @@ fn open<'a, D: Disk>(alloc: Global, disk: &'a mut D) -> Result<Store<'a, D, Hamm
         RowList::new(alloc),
     ];
     let pivots = one_pivot(alloc)?;
-    Ok(Store::of_parts(
-        pages,
-        objects,
-        lists,
-        pivots,
-        profile(),
-        Hamming { len: 4 },
-    ))
+    Ok(Store::of_parts(pages, objects, lists, pivots, profile(), Hamming { len: 4 }))
 }
 
 /// A file of 126 zero pages.
@@ -70,24 +63,43 @@ fn zero_file(alloc: Global) -> Result<Vec<u8>, AllocError> {
     Ok(file)
 }
 
+/// Adds a string that begins with this byte to collection 0.
+fn add<D: Disk>(
+    alloc: Global,
+    store: &mut Store<'_, D, Hamming>,
+    id: u32,
+    first: u8,
+) -> Result<(), ChangeError>
+    requires { store.old.metric.len ≡ 4 }
+    ensures { store.new.metric.len ≡ 4 }
+{
+    store.add(alloc, 0, id, &[first, 2, 3, 4])
+}
+
+/// Adds three strings.
+fn fill<D: Disk>(alloc: Global, store: &mut Store<'_, D, Hamming>) -> Result<(), ChangeError>
+    requires { store.old.metric.len ≡ 4 }
+    ensures { store.new.metric.len ≡ 4 }
+{
+    add(alloc, store, 9, 1)?;
+    add(alloc, store, 8, 1)?;
+    add(alloc, store, 7, 1)
+}
+
 #[test]
-fn objects_come_and_go(rt: HostRuntime) -> Result<(), Fail> {
+fn an_object_comes_and_goes(rt: HostRuntime) -> Result<(), Fail> {
     let file = zero_file(rt.alloc())?;
     let mut disk = SureDisk::new(rt.alloc(), &file)?;
     if disk.size()? != 64512 {
         return Err(Fail::new("not 126 pages"));
     }
     let mut store = open(rt.alloc(), &mut disk)?;
-    store.add(rt.alloc(), 2, 70_000, &[1, 2, 3, 4])?;
-    store.add(rt.alloc(), 2, 7, &[5, 6, 7, 9])?;
+    add(rt.alloc(), &mut store, 70_000, 1)?;
     let mut object = Bytes::of(rt.alloc(), &[])?;
-    store.get(2, 70_000, &mut object)?;
+    store.get(0, 70_000, &mut object)?;
     assert!(rt; object.as_slice() == [1, 2, 3, 4].as_slice());
-    store.remove(2, 70_000)?;
-    assert!(rt; store.get(2, 70_000, &mut object) == Err(ChangeError::Absent));
-    assert!(rt; store.remove(2, 70_000) == Err(ChangeError::Absent));
-    assert_eq!(rt; store.count(2), 1);
-    assert_eq!(rt; store.count(1), 0);
+    store.remove(0, 70_000)?;
+    assert!(rt; store.remove(0, 70_000) == Err(ChangeError::Absent));
     Ok(())
 }
 
@@ -99,13 +111,11 @@ fn a_store_is_full(rt: HostRuntime) -> Result<(), Fail> {
         return Err(Fail::new("not 126 pages"));
     }
     let mut store = open(rt.alloc(), &mut disk)?;
-    store.add(rt.alloc(), 0, 9, &[1, 2, 3, 4])?;
-    store.add(rt.alloc(), 0, 8, &[1, 2, 3, 4])?;
-    assert!(rt; !store.full());
-    store.add(rt.alloc(), 3, 9, &[1, 2, 3, 4])?;
+    fill(rt.alloc(), &mut store)?;
+    assert!(rt; add(rt.alloc(), &mut store, 8, 1) == Err(ChangeError::Exists));
+    assert!(rt; add(rt.alloc(), &mut store, 6, 1) == Err(ChangeError::Full));
     assert!(rt; store.full());
-    assert!(rt; store.add(rt.alloc(), 0, 8, &[0, 0, 0, 0]) == Err(ChangeError::Exists));
-    assert!(rt; store.add(rt.alloc(), 0, 7, &[0, 0, 0, 0]) == Err(ChangeError::Full));
+    assert_eq!(rt; store.count(0), 3);
     Ok(())
 }
 
@@ -123,12 +133,11 @@ fn a_failed_call_spends_the_store(rt: HostRuntime) -> Result<(), Fail> {
         return Err(Fail::new("not 126 pages"));
     }
     let mut store = open(rt.alloc(), &mut disk)?;
-    assert!(rt; store.add(rt.alloc(), 0, 9, &[1, 2, 3, 4]) == Err(ChangeError::DiskFault));
+    assert!(rt; add(rt.alloc(), &mut store, 9, 1) == Err(ChangeError::DiskFault));
     let spent = ChangeError::Spent {
         first: First::DiskFault,
     };
-    assert!(rt; store.add(rt.alloc(), 0, 9, &[1, 2, 3, 4]) == Err(spent));
-    assert!(rt; store.remove(0, 9) == Err(spent));
+    assert!(rt; add(rt.alloc(), &mut store, 9, 1) == Err(spent));
     assert_eq!(rt; store.count(0), 0);
     assert!(rt; store.into_inner().calls().len() == 3);
     Ok(())

@@ -1,19 +1,16 @@
-use Rattle.std.proofs.Common.{◌≡◌, ◌<◌, ℕ, IsTrue, List, Option, None, Some, Ok, Err, sym, ap, subst, ◌∙◌, arith}
+use Rattle.std.proofs.Common.{IsTrue, Option, Ok, Err, sym, subst, ◌∙◌, arith}
 use Rattle.std.specs.Prelude.{slice_set}
-use Rattle.std.specs.List.{insert}
 use Rattle.spb_edge.specs.Moments.{weaker}
 use Rattle.redo_journal.specs.Pages.{page}
-use Rattle.row_list.specs.Lists.{ListedRows, IsListed, IsPlaceFor, IsInOrder}
-use Rattle.row_list.specs.ListLaws.{rows_of-slotted}
 use Rattle.object_file.specs.Slots.{Holds}
 use Rattle.store_check.specs.Stands.{store_magic}
 use Rattle.open_store.specs.declared.errors.First.{First}
 use Rattle.open_store.specs.declared.errors.ChangeError.TheVariants as change
 use Rattle.open_store.specs.SlotChange.{IsFilledOrNot}
-use Rattle.open_store.specs.Store.{StoreView, IsStore, IsInState, opened_store, tables_of, table_at, row_in, is_full_store, row_count, measured_row, with_member}
+use Rattle.open_store.specs.Store.{StoreView, IsStore, opened_store, tables_of, row_in, is_full_store, row_count, measured_row, with_member}
 use Rattle.open_store.specs.Answers.{StandsForEither}
-use Rattle.open_store.proofs.Tables.{tables-same, tables-insert}
-use Rattle.open_store.proofs.Addition.{rows_in, row_is_there, row_is_absent, failed_answers, full_without_free, room_with_free, in_lists, list_grows, object_fits, stands_now, replies_add, spent_store, grown_store, left_by_adding, in_state_with}
+use Rattle.open_store.proofs.Tables.{tables-same}
+use Rattle.open_store.proofs.Addition.{row_is_there, row_is_absent, failed_answers, full_without_free, room_with_free, in_lists, list_grows, object_fits, stands_now, replies_add, spent_store, grown_store, left_by_adding, in_state_with}
 use Rattle.open_store.proofs.adding.add_object.Goals as goal
 
 pub returns-in_default-find-clause-answers : goal.returns-in_default-find-clause-answers
@@ -32,20 +29,21 @@ returns-in_default-find-clause-replies g c =
 pub returns-then-free_slots-eq0-clause-answers : goal.returns-then-free_slots-eq0-clause-answers
 returns-then-free_slots-eq0-clause-answers g c = (
   row_is_absent c.args.lists.now c.args.head.collection c.args.head.id c.in-Absent.place c.index-lists-head.result
-  (in_lists c.args.lists.now c.args.head.collection c.requires.sound.four c.requires.collection) c.in-Absent.ensures.sound c.in-Absent.ensures.place,
+      (in_lists c.args.lists.now c.args.head.collection c.requires.sound.four c.requires.collection) c.in-Absent.ensures.sound c.in-Absent.ensures.place,
   full_without_free (row_count (tables_of c.args.lists.now)) _ c.args.setup.now.profile.cap (c.requires.sound.counted c.in_default.is)
-  (sym c.free_slots.ensures.count ∙ c.if-free_slots-eq0.true),
+      (sym c.free_slots.ensures.count ∙ c.if-free_slots-eq0.true),
 )
 
 pub returns-then-free_slots-eq0-clause-replies : goal.returns-then-free_slots-eq0-clause-replies
 returns-then-free_slots-eq0-clause-replies g c =
     let v : StoreView g.row.D.Denot g.row.M.Denot = opened_store c.args.pages.now c.args.objects.now c.args.lists.now c.args.setup.now c.args.spent.now in
     replies_add g.D.Disk.is_known g.D.Disk.image g.M.Metric.admitted g.M.Metric.dist v c.requires.sound c.args.head.collection c.args.head.id (Err change.Full)
-    c.in_default.is
-    (row_is_absent c.args.lists.now c.args.head.collection c.args.head.id c.in-Absent.place c.index-lists-head.result
-    (in_lists c.args.lists.now c.args.head.collection c.requires.sound.four c.requires.collection) c.in-Absent.ensures.sound c.in-Absent.ensures.place,
-    full_without_free (row_count (tables_of c.args.lists.now)) _ c.args.setup.now.profile.cap (c.requires.sound.counted c.in_default.is)
-    (sym c.free_slots.ensures.count ∙ c.if-free_slots-eq0.true))
+    c.in_default.is (
+      row_is_absent c.args.lists.now c.args.head.collection c.args.head.id c.in-Absent.place c.index-lists-head.result
+          (in_lists c.args.lists.now c.args.head.collection c.requires.sound.four c.requires.collection) c.in-Absent.ensures.sound c.in-Absent.ensures.place,
+      full_without_free (row_count (tables_of c.args.lists.now)) _ c.args.setup.now.profile.cap (c.requires.sound.counted c.in_default.is)
+          (sym c.free_slots.ensures.count ∙ c.if-free_slots-eq0.true),
+    )
 
 pub insert_object-requires-clause-short : goal.insert_object-requires-clause-short
 insert_object-requires-clause-short g c =
@@ -68,19 +66,20 @@ returns-in-Ok-clause-sound g c =
 pub returns-in-Ok-clause-answers : goal.returns-in-Ok-clause-answers
 returns-in-Ok-clause-answers g c = (
   (row_is_absent c.args.lists.now c.args.head.collection c.args.head.id c.in-Absent.place c.index-lists-head.result
-    (in_lists c.args.lists.now c.args.head.collection c.requires.sound.four c.requires.collection) c.in-Absent.ensures.sound c.in-Absent.ensures.place),
+      (in_lists c.args.lists.now c.args.head.collection c.requires.sound.four c.requires.collection) c.in-Absent.ensures.sound c.in-Absent.ensures.place),
   (room_with_free (row_count (tables_of c.args.lists.now)) _ c.args.setup.now.profile.cap (c.requires.sound.counted c.in_default.is)
-    (let count = c.free_slots.ensures.count in let some = c.if-free_slots-eq0.false in omega (arith, count, some))),
+      (let count = c.free_slots.ensures.count in let some = c.if-free_slots-eq0.false in omega (arith, count, some))),
 )
 
 pub returns-in-Ok-clause-replies : goal.returns-in-Ok-clause-replies
 returns-in-Ok-clause-replies g c =
     let v : StoreView g.row.D.Denot g.row.M.Denot = opened_store c.args.pages.now c.args.objects.now c.args.lists.now c.args.setup.now c.args.spent.now in
-    replies_add g.D.Disk.is_known g.D.Disk.image g.M.Metric.admitted g.M.Metric.dist v c.requires.sound c.args.head.collection c.args.head.id (Ok tt) c.in_default.is
-    ((row_is_absent c.args.lists.now c.args.head.collection c.args.head.id c.in-Absent.place c.index-lists-head.result
-    (in_lists c.args.lists.now c.args.head.collection c.requires.sound.four c.requires.collection) c.in-Absent.ensures.sound c.in-Absent.ensures.place),
-    (room_with_free (row_count (tables_of c.args.lists.now)) _ c.args.setup.now.profile.cap (c.requires.sound.counted c.in_default.is)
-    (let count = c.free_slots.ensures.count in let some = c.if-free_slots-eq0.false in omega (arith, count, some))))
+    replies_add g.D.Disk.is_known g.D.Disk.image g.M.Metric.admitted g.M.Metric.dist v c.requires.sound c.args.head.collection c.args.head.id (Ok tt) c.in_default.is (
+      (row_is_absent c.args.lists.now c.args.head.collection c.args.head.id c.in-Absent.place c.index-lists-head.result
+          (in_lists c.args.lists.now c.args.head.collection c.requires.sound.four c.requires.collection) c.in-Absent.ensures.sound c.in-Absent.ensures.place),
+      (room_with_free (row_count (tables_of c.args.lists.now)) _ c.args.setup.now.profile.cap (c.requires.sound.counted c.in_default.is)
+          (let count = c.free_slots.ensures.count in let some = c.if-free_slots-eq0.false in omega (arith, count, some))),
+    )
 
 pub returns-in-Ok-clause-step : goal.returns-in-Ok-clause-step
 returns-in-Ok-clause-step g c = λ s in_state.
@@ -113,8 +112,12 @@ pub returns-in-Err-clause-sound : goal.returns-in-Err-clause-sound
 returns-in-Err-clause-sound g c =
     let v : StoreView g.row.D.Denot g.row.M.Denot = opened_store c.args.pages.now c.args.objects.now c.args.lists.now c.args.setup.now c.args.spent.now in
     subst (λ (e : Option First). IsStore g.D.Disk.is_known g.D.Disk.image g.M.Metric.admitted g.M.Metric.dist
-    (record v { pages = c.insert_object.new.pages; slots = c.insert_object.new.objects;
-    tables = tables_of (slice_set c.args.lists.now c.args.head.collection c.insert_object.new.list); spent = e }))
+    (record v {
+      pages = c.insert_object.new.pages;
+      slots = c.insert_object.new.objects;
+      tables = tables_of (slice_set c.args.lists.now c.args.head.collection c.insert_object.new.list);
+      spent = e;
+    }))
     (sym c.spend.ensures.spent)
     (spent_store g.D.Disk.is_known g.D.Disk.image g.M.Metric.admitted g.M.Metric.dist v c.requires.sound c.insert_object.new.pages c.insert_object.new.objects
     (tables_of (slice_set c.args.lists.now c.args.head.collection c.insert_object.new.list)) c.in-Err.first c.insert_object.ensures.pool c.insert_object.ensures.cap

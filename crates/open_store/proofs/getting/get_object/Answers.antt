@@ -1,11 +1,11 @@
-use Rattle.std.proofs.Common.{◌≡◌, ◌<◌, ℕ, false, IsTrue, List, [], Option, None, Some, Ok, Err, sym, ap, subst, ◌∙◌, arith}
+use Rattle.std.proofs.Common.{◌<◌, ℕ, IsTrue, Ok, Err, sym, ap, subst, ◌∙◌}
 use Rattle.std.specs.Map.{keys_of}
 use Rattle.redo_journal.specs.Redo.{has_open_gate}
 use Rattle.open_store.specs.declared.errors.ChangeError.TheVariants as change
-use Rattle.open_store.specs.SlotChange.{HasSamePool, IsReady}
-use Rattle.open_store.specs.Store.{StoreView, IsStore, IsInState, opened_store, tables_of, table_at, row_in}
+use Rattle.open_store.specs.SlotChange.{HasSamePool}
+use Rattle.open_store.specs.Store.{StoreView, opened_store, tables_of, table_at, row_in}
 use Rattle.open_store.proofs.Addition.{row_is_there, row_is_absent, in_lists}
-use Rattle.open_store.proofs.Removal.{row_of, found_row, replies_key, failed_key, failed_sound, blameless, blamed_slots, row_is_below, row_is_admitted, gives_member, slot_is_kept, read_store, read_state, none_staged}
+use Rattle.open_store.proofs.Removal.{row_of, found_row, replies_key, failed_key, failed_sound, blamed_slots, row_is_below, row_is_admitted, gives_member, slot_is_kept, read_store, read_state, none_staged}
 use Rattle.open_store.proofs.getting.get_object.Goals as goal
 
 pub returns-in_default-find-clause-answers : goal.returns-in_default-find-clause-answers
@@ -34,7 +34,12 @@ returns-in-Ok-clause-sound g c =
     let v : StoreView g.row.D.Denot g.row.M.Denot = opened_store c.args.pages.now c.args.objects.now c.args.lists.now c.args.setup.now c.args.spent.now in
     let calm = c.read_object.ensures.calm in
     let pool : HasSamePool c.args.pages.now c.read_object.new.pages = record {
-      same_name = calm.same_name; same_total = calm.same_total; same_first = calm.same_first; same_count = calm.same_count; same_free = c.read_object.ensures.free } in
+      same_name = calm.same_name;
+      same_total = calm.same_total;
+      same_first = calm.same_first;
+      same_count = calm.same_count;
+      same_free = c.read_object.ensures.free;
+    } in
     let K = g.D.Disk in
     let ready = c.requires.sound.ready c.in_default.is in
     let quiet = g.met.D.Disk.quiet_is c.args.pages.now.disk c.read_object.new.pages.disk calm.is_quiet in
@@ -74,7 +79,12 @@ returns-in-Ok-clause-step g c = λ s in_state.
     let v : StoreView g.row.D.Denot g.row.M.Denot = opened_store c.args.pages.now c.args.objects.now c.args.lists.now c.args.setup.now c.args.spent.now in
     let calm = c.read_object.ensures.calm in
     let pool : HasSamePool c.args.pages.now c.read_object.new.pages = record {
-      same_name = calm.same_name; same_total = calm.same_total; same_first = calm.same_first; same_count = calm.same_count; same_free = c.read_object.ensures.free } in
+      same_name = calm.same_name;
+      same_total = calm.same_total;
+      same_first = calm.same_first;
+      same_count = calm.same_count;
+      same_free = c.read_object.ensures.free;
+    } in
     let quiet = g.met.D.Disk.quiet_is c.args.pages.now.disk c.read_object.new.pages.disk calm.is_quiet in
     read_state g.D.Disk.is_known g.D.Disk.image g.M.Metric.admitted g.M.Metric.dist v c.requires.sound c.read_object.new.pages c.args.spent.now s in_state pool calm.same_known (quiet.image_is in_state.known)
 

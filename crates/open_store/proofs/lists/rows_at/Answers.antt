@@ -1,4 +1,4 @@
-use Rattle.std.proofs.Common.{rules, ◌≡◌, ◌<◌, length, sym, ◌∙◌, arith}
+use Rattle.std.proofs.Common.{rules, ◌≡◌, length, sym, ◌∙◌, arith}
 use Rattle.open_store.proofs.Addition.{rows_in}
 use Rattle.open_store.proofs.lists.rows_at.Goals as goal
 

@@ -1,4 +1,4 @@
-use Rattle.std.proofs.Common.{◌≡◌, ◌<◌, ℕ, false, IsTrue, List, ◌∷◌, Option, None, Some, Ok, Err, true≢false, sym, ap, subst, ◌∙◌, arith}
+use Rattle.std.proofs.Common.{◌≡◌, ℕ, IsTrue, ◌∷◌, Option, Ok, Err, sym, ap, subst, ◌∙◌}
 use Rattle.std.specs.Prelude.{slice_set, slice_index, slice_index_or}
 use Rattle.std.specs.List.Sorted.{IsPermutation}
 use Rattle.std.proofs.lemmas.Bool.{false≢true}
@@ -13,7 +13,7 @@ use Rattle.store_check.specs.Stands.{store_magic}
 use Rattle.open_store.specs.declared.errors.First.{First}
 use Rattle.open_store.specs.declared.errors.ChangeError.TheVariants as change
 use Rattle.open_store.specs.SlotChange.{HasSlotSet, IsSetOrNot}
-use Rattle.open_store.specs.Store.{StoreView, IsStore, IsInState, opened_store, tables_of, table_at, row_in, without_member}
+use Rattle.open_store.specs.Store.{StoreView, IsStore, opened_store, tables_of, table_at, row_in, without_member}
 use Rattle.open_store.specs.Answers.{HasUnfilledRow, StandsForEither}
 use Rattle.open_store.proofs.Tables.{tables-same}
 use Rattle.open_store.proofs.Addition.{row_is_there, row_is_absent, in_lists, stands_now, spent_store}
@@ -107,8 +107,12 @@ pub returns-in-Err-clause-sound : goal.returns-in-Err-clause-sound
 returns-in-Err-clause-sound g c =
     let v : StoreView g.row.D.Denot g.row.M.Denot = opened_store c.args.pages.now c.args.objects.now c.args.lists.now c.args._setup.now c.args.spent.now in
     subst (λ (e : Option First). IsStore g.D.Disk.is_known g.D.Disk.image g.M.Metric.admitted g.M.Metric.dist
-    (record v { pages = c.remove_listed.new.pages; slots = c.remove_listed.new.objects;
-    tables = tables_of (slice_set c.args.lists.now c.args.head.collection c.remove_listed.new.list); spent = e }))
+    (record v {
+      pages = c.remove_listed.new.pages;
+      slots = c.remove_listed.new.objects;
+      tables = tables_of (slice_set c.args.lists.now c.args.head.collection c.remove_listed.new.list);
+      spent = e;
+    }))
     (sym c.spend.ensures.spent)
     (spent_store g.D.Disk.is_known g.D.Disk.image g.M.Metric.admitted g.M.Metric.dist v c.requires.sound c.remove_listed.new.pages c.remove_listed.new.objects
     (tables_of (slice_set c.args.lists.now c.args.head.collection c.remove_listed.new.list)) c.in-Err.first c.remove_listed.ensures.pool c.remove_listed.ensures.cap

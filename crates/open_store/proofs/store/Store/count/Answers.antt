@@ -1,6 +1,4 @@
-use Rattle.std.proofs.Common.{◌≡◌, sym, subst, ◌∙◌}
-use Rattle.redo_journal.specs.Pages.{page}
-use Rattle.spb_defs.specs.State.{State, member_count}
+use Rattle.std.proofs.Common.{sym, subst, ◌∙◌}
 use Rattle.open_store.specs.Store.{StoreView, IsInState}
 use Rattle.open_store.proofs.Removal.{count_in}
 use Rattle.open_store.proofs.store.Store.count.Goals as goal

@@ -1,6 +1,5 @@
 use Rattle.std.proofs.Common.{◌≡◌, None, sym, ap, subst, ◌∙◌}
 use Rattle.std.specs.Prelude.{nat_le}
-use Rattle.spb_defs.specs.State.{State}
 use Rattle.open_store.specs.Store.{StoreView, IsInState, opened_store}
 use Rattle.open_store.proofs.States.{full_in}
 use Rattle.open_store.proofs.store.Store.full.Goals as goal

@@ -1,6 +1,6 @@
-use Rattle.std.proofs.Common.{◌≡◌, sym, subst, ◌∙◌}
+use Rattle.std.proofs.Common.{sym, subst}
 use Rattle.std.specs.List.Sorted.{IsPermutation}
-use Rattle.spb_defs.specs.State.{State, entries_in}
+use Rattle.spb_defs.specs.State.{entries_in}
 use Rattle.pivot_map.specs.Rows.{entries_of}
 use Rattle.open_store.specs.Store.{StoreView, IsInState}
 use Rattle.open_store.proofs.Removal.{rows_are}
