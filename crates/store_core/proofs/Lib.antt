@@ -3,3 +3,10 @@ pub mod Sizes
 pub mod Starting
 pub mod Crashes
 pub mod Excluding
+pub mod SlotLists
+pub mod SlotSteps
+pub mod PageSteps
+pub mod OpenedImages
+pub mod LoadedTables
+pub mod Loading
+pub mod StartedImages

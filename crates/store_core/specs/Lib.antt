@@ -3,3 +3,5 @@ pub mod Paging
 pub mod Content
 pub mod Opening
 pub mod Parts
+pub mod SlotContents
+pub mod Finish
