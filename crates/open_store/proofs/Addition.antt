@@ -1,6 +1,6 @@
 -- A store to which an object is added.
 use Rattle.std.proofs.Common.{◌≡◌, inl, inr, ℕ, ◌+◌, ◌*◌, ◌^◌, ◌<◌, ◌≤◌, Bool, true, false, IsTrue, List, [], ◌∷◌, length, get_or, Option, Some, None, Result, Ok, Err, refl, sym, ap, subst, ◌∙◌, arith}
-use Rattle.std.specs.Prelude.{nat_le, ◌||◌, All, IsSome, slice_set}
+use Rattle.std.specs.Prelude.{nat_eq, nat_le, ◌||◌, All, IsSome, slice_set}
 use Rattle.std.specs.List.{insert}
 use Rattle.std.specs.List.Sorted.{IsPermutation}
 use Rattle.std.specs.Option.{option_map}
@@ -71,10 +71,10 @@ failed_answers found full first e is undamaged none room = subst (λ why. Answer
     by (errors.Damaged n rule) undamaged = absurd undamaged
     by errors.Memory undamaged = (none, room)
 
-pub full_without_free : (count free cap : ℕ) → count + free ≡ cap → free ≡ 0 → nat_le cap count ≡ true
+pub full_without_free : (count free cap : ℕ) → count + free ≡ cap → nat_eq free 0 ≡ true → nat_le cap count ≡ true
 full_without_free count free cap counted none = grind (arith, nat_tests, counted, none)
 
-pub room_with_free : (count free cap : ℕ) → count + free ≡ cap → 0 < free → nat_le cap count ≡ false
+pub room_with_free : (count free cap : ℕ) → count + free ≡ cap → nat_eq free 0 ≡ false → nat_le cap count ≡ false
 room_with_free count free cap counted some = grind (arith, nat_tests, counted, some)
 
 pub in_lists : (lists : List ListedRows) (c : ℕ) → length (tables_of lists) ≡ 4 → c < 4 → c < length lists

@@ -1,13 +1,12 @@
 -- A change of one slot in pages over a disk.
-use Rattle.std.specs.Prelude.{◌≡◌, ◌⊎◌, ℕ, false, List, []}
-use Rattle.std.specs.Prelude.{◌∷◌}
+use Rattle.std.specs.Prelude.{◌≡◌, ◌⊎◌, ℕ, false, List, [], ◌∷◌}
 use Rattle.std.specs.List.Sorted.{IsPermutation}
 use Rattle.redo_journal.specs.Redo.{RecoversTo}
 use Rattle.page_store.specs.PageStore.{PagesView}
 use Rattle.object_file.specs.Slots.{Slot}
 use Rattle.object_file.specs.ObjectFile.{SetsSlot}
 
--- the image stands for pages that have this content in the slot, and are else these
+-- the image stands for pages that have this content in the slot and are otherwise these
 pub record HasSlotSet (total slot : ℕ) (content : Slot) (marks : List ℕ) (pages : ℕ → List ℕ) (image : List ℕ) : Type 0 where
   pub home : ℕ → List ℕ
   pub has : RecoversTo total image marks home
@@ -37,7 +36,7 @@ module _ {D : Type 0} where
     pub same_count : new.count ≡ old.count
     pub same_free : new.free ≡ old.free
 
-  -- no change is open, none failed, and none is staged
+  -- no change is open, no commit failed, and no page is staged
   pub record IsReady (pages : PagesView D) : Type 0 where
     pub shut : pages.is_open ≡ false
     pub sound : pages.failed ≡ false

@@ -1,5 +1,5 @@
 //! Adding an object.
-ghost use Rattle.std.specs.Prelude.{◌≡◌, ◌^◌, ◌<◌, ◌≤◌, ◌∷◌, ℕ, List, None, Some, false, IsTrue, IfOk, OnOk, OnErr, length, map};
+ghost use Rattle.std.specs.Prelude.{◌≡◌, nat_eq, ◌^◌, ◌<◌, ◌≤◌, ◌∷◌, ℕ, List, None, Some, false, IsTrue, IfOk, OnOk, OnErr, length, map};
 ghost use Rattle.std.specs.List.{insert};
 ghost use Rattle.std.specs.List.Sorted.{IsPermutation};
 ghost use Rattle.spb_edge.specs.Calls.{StaysKnown};
@@ -70,7 +70,7 @@ pub(crate) fn add_object<D: Disk, M: Metric>(
     let Place::Absent(place) = lists[head.collection as usize].find(head.id) else {
         return Err(ChangeError::Exists);
     };
-    if objects.free_slots() == 0 {
+    if has_no_room(objects) {
         return Err(ChangeError::Full);
     }
     let list = &mut lists[head.collection as usize];
@@ -78,6 +78,13 @@ pub(crate) fn add_object<D: Disk, M: Metric>(
         Ok(_slot) => Ok(()),
         Err(first) => Err(spend(spent, first)),
     }
+}
+
+/// Whether no slot is free.
+fn has_no_room(objects: &ObjectFile) -> bool
+    ensures { result ≡ nat_eq (length objects.now.free) 0 }
+{
+    objects.free_slots() == 0
 }
 
 /// Ends a store: `first` is the error after which it is spent.

@@ -61,7 +61,9 @@ impl<'a, D: Disk, M: Metric> Model for Store<'a, D, M> {
 }
 
 impl<'a, D: Disk, M: Metric> Store<'a, D, M> {
-    /// The store of these parts. It takes no memory.
+    /// The store of these parts, which agree with the profile: the pages and their pool, the slots, and the pivots are as
+    /// many as it says, the metric is that of its space, and each slot has a row in one of the four lists or is free. No
+    /// change is open, no commit failed, and over a known disk the gate is closed. It takes no memory.
     pub fn of_parts(
         pages: PageStore<'a, D>,
         objects: ObjectFile,

@@ -26,23 +26,23 @@ returns-in_default-find-clause-replies g c =
     (row_is_there c.args.lists.now c.args.head.collection c.args.head.id c.in_default-find.field-0 c.index-lists-head.result
     (in_lists c.args.lists.now c.args.head.collection c.requires.sound.four c.requires.collection) c.in_default-find.ensures.sound c.in_default-find.ensures.place)
 
-pub returns-then-free_slots-eq0-clause-answers : goal.returns-then-free_slots-eq0-clause-answers
-returns-then-free_slots-eq0-clause-answers g c = (
+pub returns-then-has_no_room-clause-answers : goal.returns-then-has_no_room-clause-answers
+returns-then-has_no_room-clause-answers g c = (
   row_is_absent c.args.lists.now c.args.head.collection c.args.head.id c.in-Absent.place c.index-lists-head.result
       (in_lists c.args.lists.now c.args.head.collection c.requires.sound.four c.requires.collection) c.in-Absent.ensures.sound c.in-Absent.ensures.place,
   full_without_free (row_count (tables_of c.args.lists.now)) _ c.args.setup.now.profile.cap (c.requires.sound.counted c.in_default.is)
-      (sym c.free_slots.ensures.count ∙ c.if-free_slots-eq0.true),
+      (sym c.has_no_room.ensures ∙ c.if-has_no_room.true),
 )
 
-pub returns-then-free_slots-eq0-clause-replies : goal.returns-then-free_slots-eq0-clause-replies
-returns-then-free_slots-eq0-clause-replies g c =
+pub returns-then-has_no_room-clause-replies : goal.returns-then-has_no_room-clause-replies
+returns-then-has_no_room-clause-replies g c =
     let v : StoreView g.row.D.Denot g.row.M.Denot = opened_store c.args.pages.now c.args.objects.now c.args.lists.now c.args.setup.now c.args.spent.now in
     replies_add g.D.Disk.is_known g.D.Disk.image g.M.Metric.admitted g.M.Metric.dist v c.requires.sound c.args.head.collection c.args.head.id (Err change.Full)
     c.in_default.is (
       row_is_absent c.args.lists.now c.args.head.collection c.args.head.id c.in-Absent.place c.index-lists-head.result
           (in_lists c.args.lists.now c.args.head.collection c.requires.sound.four c.requires.collection) c.in-Absent.ensures.sound c.in-Absent.ensures.place,
       full_without_free (row_count (tables_of c.args.lists.now)) _ c.args.setup.now.profile.cap (c.requires.sound.counted c.in_default.is)
-          (sym c.free_slots.ensures.count ∙ c.if-free_slots-eq0.true),
+          (sym c.has_no_room.ensures ∙ c.if-has_no_room.true),
     )
 
 pub insert_object-requires-clause-short : goal.insert_object-requires-clause-short
@@ -68,7 +68,7 @@ returns-in-Ok-clause-answers g c = (
   (row_is_absent c.args.lists.now c.args.head.collection c.args.head.id c.in-Absent.place c.index-lists-head.result
       (in_lists c.args.lists.now c.args.head.collection c.requires.sound.four c.requires.collection) c.in-Absent.ensures.sound c.in-Absent.ensures.place),
   (room_with_free (row_count (tables_of c.args.lists.now)) _ c.args.setup.now.profile.cap (c.requires.sound.counted c.in_default.is)
-      (let count = c.free_slots.ensures.count in let some = c.if-free_slots-eq0.false in omega (arith, count, some))),
+      (sym c.has_no_room.ensures ∙ c.if-has_no_room.false)),
 )
 
 pub returns-in-Ok-clause-replies : goal.returns-in-Ok-clause-replies
@@ -78,7 +78,7 @@ returns-in-Ok-clause-replies g c =
       (row_is_absent c.args.lists.now c.args.head.collection c.args.head.id c.in-Absent.place c.index-lists-head.result
           (in_lists c.args.lists.now c.args.head.collection c.requires.sound.four c.requires.collection) c.in-Absent.ensures.sound c.in-Absent.ensures.place),
       (room_with_free (row_count (tables_of c.args.lists.now)) _ c.args.setup.now.profile.cap (c.requires.sound.counted c.in_default.is)
-          (let count = c.free_slots.ensures.count in let some = c.if-free_slots-eq0.false in omega (arith, count, some))),
+          (sym c.has_no_room.ensures ∙ c.if-has_no_room.false)),
     )
 
 pub returns-in-Ok-clause-step : goal.returns-in-Ok-clause-step
@@ -132,7 +132,7 @@ returns-in-Err-clause-answers g c =
     (row_is_absent c.args.lists.now c.args.head.collection c.args.head.id c.in-Absent.place c.index-lists-head.result
     (in_lists c.args.lists.now c.args.head.collection c.requires.sound.four c.requires.collection) c.in-Absent.ensures.sound c.in-Absent.ensures.place)
     (room_with_free (row_count (tables_of c.args.lists.now)) _ c.args.setup.now.profile.cap (c.requires.sound.counted c.in_default.is)
-    (let count = c.free_slots.ensures.count in let some = c.if-free_slots-eq0.false in omega (arith, count, some)))
+    (sym c.has_no_room.ensures ∙ c.if-has_no_room.false))
 
 pub returns-in-Err-clause-replies : goal.returns-in-Err-clause-replies
 returns-in-Err-clause-replies g c =
@@ -143,7 +143,7 @@ returns-in-Err-clause-replies g c =
     (row_is_absent c.args.lists.now c.args.head.collection c.args.head.id c.in-Absent.place c.index-lists-head.result
     (in_lists c.args.lists.now c.args.head.collection c.requires.sound.four c.requires.collection) c.in-Absent.ensures.sound c.in-Absent.ensures.place)
     (room_with_free (row_count (tables_of c.args.lists.now)) _ c.args.setup.now.profile.cap (c.requires.sound.counted c.in_default.is)
-    (let count = c.free_slots.ensures.count in let some = c.if-free_slots-eq0.false in omega (arith, count, some))))
+    (sym c.has_no_room.ensures ∙ c.if-has_no_room.false)))
 
 pub returns-in-Err-clause-any_moment : goal.returns-in-Err-clause-any_moment
 returns-in-Err-clause-any_moment g c = λ s in_state crashes durable.
