@@ -1,6 +1,6 @@
 -- Tables that were read, put in order of id, as the tables of a store.
-use Rattle.std.proofs.Common.{◌≡◌, inl, inr, ℕ, zero, suc, ◌+◌, ◌<◌, ◌≤◌, true, false, List, [], ◌∷◌, map, length, get_or, All, refl, sym, ap, subst, ◌∙◌, arith}
-use Rattle.std.specs.Prelude.{◌^◌, sum_by, AllPairs, Contains}
+use Rattle.std.proofs.Common.{◌≡◌, inr, ℕ, zero, suc, ◌+◌, ◌<◌, ◌≤◌, false, List, [], ◌∷◌, map, length, get_or, All, refl, sym, ap, subst, ◌∙◌, arith}
+use Rattle.std.specs.Prelude.{◌^◌, AllPairs, Contains}
 use Rattle.std.specs.List.Sorted.{IsPermutation}
 use Rattle.std.proofs.lemmas.List.{length-map, get_or-map, get_or_default}
 use Rattle.std.proofs.lemmas.List.Elements.{All-contains, All-map}
@@ -13,14 +13,13 @@ use Rattle.spb_defs.specs.Scans.{Entry}
 use Rattle.scan_laws.specs.Tables.{HasDistinctEntryIds, key_before}
 use Rattle.answer_lists.specs.Order.{sorted_by}
 use Rattle.pivot_map.specs.declared.row.Row.{Row}
-use Rattle.pivot_map.specs.Rows.{entry_of, AreRows}
+use Rattle.pivot_map.specs.Rows.{entry_of}
 use Rattle.row_list.specs.declared.sorting.SlottedRow.{SlottedRow}
 use Rattle.row_list.specs.Slotted.{RepeatsId, rows_of}
-use Rattle.row_list.specs.Lists.{ListedRows, IsInOrder, IsListed, slotted}
+use Rattle.row_list.specs.Lists.{ListedRows, IsInOrder, slotted}
 use Rattle.row_list.specs.ListLaws.{rows_of-slotted}
 use Rattle.page_laws.specs.declared.rule.Rule.TheVariants as rule
-use Rattle.object_file.specs.Slots.{Slot}
-use Rattle.object_file.specs.ObjectFile.{slot_at, slot_page}
+use Rattle.object_file.specs.ObjectFile.{slot_at}
 use Rattle.store_check.specs.Stands.{HoldsMembers, placed_in, placed_members}
 use Rattle.store_check.specs.Damage.{HoldsAgain}
 use Rattle.slot_laws.specs.SlotTables.{SlotRow, slot_table, AreTablesIn, AreRead, HaveDistinctIds}
@@ -30,7 +29,7 @@ use Rattle.slot_laws.specs.ReadingLaws.{slots_are_read}
 use Rattle.open_store.specs.Store.{tables_of, table_at, slot_row, slot_tables, row_count, IsTable}
 use Rattle.store_core.specs.declared.errors.OpenError.{OpenError}
 use Rattle.store_core.specs.declared.errors.OpenError.TheVariants as refusal
-use Rattle.store_core.specs.SlotContents.{IsSlotTable, HasTables, HoldsTables, IsListOf, AreListsOf, HasRepeatIn, HasBadSlotAt, RefusesPage, RefusesSlots}
+use Rattle.store_core.specs.SlotContents.{IsSlotTable, HasTables, HoldsTables, AreListsOf, HasRepeatIn, RefusesPage, RefusesSlots}
 
 -- ---- tables and lists by their places
 

@@ -1,25 +1,20 @@
 -- What the image of a file says of the state that it stands for, or why it stands for none.
-use Rattle.std.proofs.Common.{◌≡◌, inl, inr, ℕ, zero, suc, ◌+◌, ◌*◌, ◌/◌, ◌%◌, ◌<◌, ◌≤◌, true, false, List, [], ◌∷◌, map, length, refl, sym, ap, subst, ◌∙◌, arith}
-use Rattle.std.specs.Prelude.{◌⊎◌, Bool, IsTrue, if◌then◌else◌, All, Contains, Some, slice_index_or}
+use Rattle.std.proofs.Common.{◌≡◌, inl, inr, ℕ, zero, suc, ◌+◌, ◌/◌, ◌%◌, ◌<◌, false, List, [], ◌∷◌, map, length, refl, sym, ap, subst, ◌∙◌, arith}
+use Rattle.std.specs.Prelude.{◌⊎◌, IsTrue, if◌then◌else◌, All, slice_index_or}
 use Rattle.std.specs.List.{range_with_len}
 use Rattle.std.proofs.lemmas.Bool.{false≢true}
-use Rattle.std.proofs.lemmas.Bool.{cases_lt}
 use Rattle.std.proofs.lemmas.List.{get_or_past}
-use Rattle.std.proofs.lemmas.List.Elements.{All-contains}
-use Rattle.metrics_builtin.specs.declared.Space.{Space}
 use Rattle.metrics_builtin.specs.Space.{IsValid}
-use Rattle.spb_defs.specs.State.{State}
 use Rattle.page_laws.specs.declared.rule.Rule.TheVariants as rule
 use Rattle.redo_journal.specs.Pages.{page}
 use Rattle.redo_journal.specs.Redo.{redo_page, has_open_gate, overlay, journal_entries}
-use Rattle.object_file.specs.Slots.{Slot, slot_in}
+use Rattle.object_file.specs.Slots.{slot_in}
 use Rattle.object_file.specs.ObjectFile.{slot_page, slot_at}
 use Rattle.store_check.specs.declared.profile.Profile.{Profile}
-use Rattle.store_check.specs.Layout.{file_pages}
 use Rattle.store_check.specs.Profile.{profile_in, IsInRange}
 use Rattle.store_check.specs.Pivots.{pivot_of, pivot_at, HasPivots}
-use Rattle.store_check.specs.Stands.{IsReadable, HoldsMembers, Keeps, are_empty, placed_members}
-use Rattle.store_check.specs.Damage.{IsPivot, HasGoodPivots, HoldsAgain, HasBadSlot, HasTree}
+use Rattle.store_check.specs.Stands.{IsReadable, HoldsMembers, Keeps, are_empty}
+use Rattle.store_check.specs.Damage.{IsPivot, HasGoodPivots, HoldsAgain, HasBadSlot}
 use Rattle.store_check.specs.Opened.{object_or, pivots_in, state_in}
 use Rattle.store_core.specs.declared.errors.OpenError.{OpenError}
 use Rattle.store_core.specs.declared.errors.OpenError.TheVariants as refusal

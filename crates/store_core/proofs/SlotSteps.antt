@@ -1,17 +1,15 @@
 -- One slot more that is read.
-use Rattle.std.proofs.Common.{◌≡◌, inl, inr, ℕ, zero, suc, ◌+◌, ◌*◌, ◌/◌, ◌%◌, ◌<◌, ◌≤◌, true, false, List, [], ◌∷◌, ◌++◌, length, map, get_or, All, refl, sym, ap, subst, ◌∙◌, arith}
-use Rattle.std.specs.Prelude.{◌^◌, slice_set, sum_by, Bool, IsTrue, Result, Ok, Err, MatchResult, OnOk}
+use Rattle.std.proofs.Common.{◌≡◌, inl, ℕ, zero, suc, ◌+◌, ◌%◌, ◌<◌, true, false, List, [], ◌∷◌, ◌++◌, length, map, All, refl, sym, ap, subst, ◌∙◌, arith}
+use Rattle.std.specs.Prelude.{slice_set, Bool, IsTrue, Result, Ok, Err, MatchResult, OnOk}
 use Rattle.std.specs.List.{AllByRecursion, IsDistinct}
 use Rattle.std.specs.List.Sorted.{IsPermutation}
-use Rattle.std.proofs.lemmas.Bool.{cases_eq, cases_lt}
 use Rattle.std.proofs.lemmas.Bool.Decides.{nat_tests}
-use Rattle.std.proofs.lemmas.List.{length-set, length-append, map-set, map-append, length-map}
+use Rattle.std.proofs.lemmas.List.{length-set, length-append, map-set, length-map}
 use Rattle.std.proofs.lemmas.List.Elements.{All-set, All-push, All-weaker}
 use Rattle.std.proofs.lemmas.List.Sorted.{IsPermutation-map, IsPermutation-to_front}
 use Rattle.std.proofs.lemmas.List.Sums.{sum_by-set}
 use Rattle.metric_laws.specs.Objects.{Object, Distance}
 use Rattle.metrics_builtin.specs.declared.Space.{Space}
-use Rattle.metrics_builtin.specs.Space.{IsValid}
 use Rattle.spb_defs.specs.MetricOf.{IsMetricOf}
 use Rattle.spb_defs.specs.Pivots.{cells_of}
 use Rattle.page_laws.specs.Pages.{is_among, AreFree}
@@ -21,13 +19,13 @@ use Rattle.row_list.specs.declared.sorting.SlottedRow.{SlottedRow}
 use Rattle.object_file.specs.Slots.{Slot, Free, Holds, Broken, slot_in}
 use Rattle.object_file.specs.ObjectFile.{is_slot, slot_page, slot_at}
 use Rattle.store_check.specs.Stands.{IsReadable}
-use Rattle.slot_laws.specs.SlotTables.{SlotRow, slot_table, GainsRow, AreRead}
+use Rattle.slot_laws.specs.SlotTables.{slot_table, GainsRow}
 use Rattle.slot_laws.specs.TableRows.{gains_row}
 use Rattle.slot_laws.specs.ReadingLaws.{nothing_is_read, a_free_slot_is_read, a_filled_slot_is_read}
-use Rattle.open_store.specs.Store.{table_at, slot_row, slot_tables, row_count, measured_row}
+use Rattle.open_store.specs.Store.{table_at, slot_row, slot_tables, measured_row}
 use Rattle.store_core.specs.declared.errors.OpenError.{OpenError}
 use Rattle.store_core.specs.declared.errors.OpenError.TheVariants as refusal
-use Rattle.store_core.specs.SlotContents.{IsSlotTable, HasTables, AddsRow, HoldsTables, slots_before, HasBadSlotAt, RefusesSlot, RefusesSlots, RefusesPage}
+use Rattle.store_core.specs.SlotContents.{IsSlotTable, HasTables, AddsRow, HoldsTables, HasBadSlotAt, RefusesSlot, RefusesSlots}
 
 -- ---- numbers below one more
 

@@ -1,5 +1,5 @@
 -- The image that the first half of an opening leaves, and what a stored one stands for.
-use Rattle.std.proofs.Common.{◌≡◌, ℕ, ◌+◌, ◌/◌, ◌%◌, List, refl, sym, ap, ◌∙◌, arith}
+use Rattle.std.proofs.Common.{◌≡◌, ℕ, ◌+◌, ◌/◌, ◌%◌, List, sym, ap, ◌∙◌, arith}
 use Rattle.std.proofs.lemmas.Bool.{false≢true}
 use Rattle.spb_defs.specs.State.{State}
 use Rattle.redo_journal.specs.Pages.{page, IsHome}

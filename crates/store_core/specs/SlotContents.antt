@@ -1,5 +1,5 @@
 -- What the slots of a file hold, as an opening reads them one after another.
-use Rattle.std.specs.Prelude.{◌≡◌, ◌⊎◌, ℕ, ◌+◌, ◌*◌, ◌^◌, ◌<◌, min, Bool, IsTrue, List, [], ◌∷◌, ◌++◌, length, All, slice_set, Result, Ok, Err}
+use Rattle.std.specs.Prelude.{◌≡◌, ◌⊎◌, ℕ, ◌+◌, ◌*◌, ◌^◌, ◌<◌, min, Bool, List, [], ◌∷◌, ◌++◌, length, All, slice_set}
 use Rattle.std.specs.List.{slice_index_or}
 use Rattle.std.specs.List.Sorted.{IsPermutation}
 use Rattle.metric_laws.specs.Objects.{Object, Distance}

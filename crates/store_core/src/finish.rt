@@ -1,5 +1,5 @@
 //! The second half of an opening: the slots are read, and the store is made.
-ghost use Rattle.std.specs.Prelude.{◌≡◌, ◌↔◌, ℕ, ◌+◌, ◌<◌, ◌≤◌, [], List, true, false, IsTrue, IfOk, IfErr, MatchResult, None, All, length};
+ghost use Rattle.std.specs.Prelude.{◌≡◌, ℕ, ◌+◌, ◌<◌, ◌≤◌, [], false, IsTrue, IfOk, IfErr, MatchResult, None, All, length};
 ghost use Rattle.metrics_builtin.specs.Space.{IsValid};
 ghost use Rattle.spb_edge.specs.Calls.{StaysKnown};
 ghost use Rattle.spb_defs.specs.MetricOf.{IsMetricOf};

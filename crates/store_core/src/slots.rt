@@ -16,7 +16,7 @@ ghost use Rattle.store_check.specs.declared.layout.TheConstants.{CAP_LIMIT};
 ghost use Rattle.open_store.specs.Store.{table_at, measured_row};
 ghost use Rattle.store_core.specs.declared.errors.OpenError.TheVariants as refusal;
 ghost use Rattle.store_core.specs.Errors.{CountsOpenFault};
-ghost use Rattle.store_core.specs.SlotContents.{IsSlotTable, HasTables, AddsRow, HoldsTables, slots_before, RefusesSlot, RefusesSlots, IsListOf, AreListsOf, HasRepeatOn, HasRepeatIn, RefusesPage, IsSlotRefusal, page_refusal, HasSamePages};
+ghost use Rattle.store_core.specs.SlotContents.{HasTables, AddsRow, HoldsTables, slots_before, RefusesSlot, RefusesSlots, IsListOf, AreListsOf, HasRepeatOn, HasRepeatIn, RefusesPage, IsSlotRefusal, page_refusal, HasSamePages};
 
 use crate::OpenError;
 use metric_laws::{Counted, Metric};

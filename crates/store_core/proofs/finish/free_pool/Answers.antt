@@ -1,4 +1,4 @@
-use Rattle.std.proofs.Common.{◌≡◌, [], sym, ap, subst, ◌∙◌}
+use Rattle.std.proofs.Common.{◌≡◌, sym, ap, subst, ◌∙◌}
 use Rattle.store_core.proofs.PageSteps.{nothing_staged}
 use Rattle.store_core.proofs.finish.free_pool.Goals as goal
 

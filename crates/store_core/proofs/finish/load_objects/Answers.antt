@@ -1,8 +1,7 @@
-use Rattle.std.proofs.Common.{rules, ◌≡◌, ◌+◌, ℕ, List, [], false, IsTrue, sym, ap, subst, ◌∙◌}
-use Rattle.page_store.specs.PageStore.{PagesView}
+use Rattle.std.proofs.Common.{rules, ◌≡◌, [], IsTrue, sym, ap, subst, ◌∙◌}
 use Rattle.redo_journal.specs.Pages.{page}
 use Rattle.redo_journal.specs.Redo.{has_open_gate}
-use Rattle.object_file.specs.ObjectFile.{Slots, slot_at}
+use Rattle.object_file.specs.ObjectFile.{slot_at}
 use Rattle.store_check.specs.Opened.{state_in}
 use Rattle.std.specs.Prelude.{None}
 use Rattle.open_store.specs.Store.{IsInState, store_of}

@@ -1,7 +1,7 @@
-use Rattle.std.proofs.Common.{rules, ◌≡◌, ◌+◌, ◌*◌, ◌<◌, ◌≤◌, sym, subst, arith}
+use Rattle.std.proofs.Common.{rules, ◌≡◌, ◌+◌, ◌*◌, ◌<◌, ◌≤◌, subst, arith}
 use Rattle.std.specs.Prelude.{min}
 use Rattle.object_file.specs.ObjectFile.{slot_at}
-use Rattle.store_core.specs.SlotContents.{HasTables, HoldsTables, RefusesSlots, slots_before}
+use Rattle.store_core.specs.SlotContents.{HasTables, HoldsTables, RefusesSlots}
 use Rattle.store_core.proofs.PageSteps.{goes_on, stops, last_is}
 use Rattle.store_core.proofs.slots.add_page.Goals as goal
 

@@ -1,4 +1,4 @@
-use Rattle.store_core.specs.SlotContents.{HasTables, HoldsTables}
+use Rattle.store_core.specs.SlotContents.{HasTables}
 use Rattle.store_core.proofs.PageSteps.{GoesOn}
 use Rattle.store_core.proofs.slots.add_page.Given as goal
 

@@ -1,5 +1,5 @@
-use Rattle.std.proofs.Common.{rules, ◌≡◌, ◌+◌, ◌%◌, ◌<◌, ◌∷◌, ◌++◌, [], sym, subst}
-use Rattle.object_file.specs.Slots.{Free, Holds, slot_in}
+use Rattle.std.proofs.Common.{◌+◌, sym, subst}
+use Rattle.object_file.specs.Slots.{Free, Holds}
 use Rattle.slot_laws.specs.SlotTableLaws.{slots_are_of_collections}
 use Rattle.store_core.specs.SlotContents.{HasTables, HoldsTables}
 use Rattle.store_core.proofs.SlotSteps.{free_tables, free_read, object_tables, object_read, page_slot}

@@ -1,5 +1,4 @@
 use Rattle.std.proofs.Common.{rules, ◌≡◌, ◌∙◌, ◌<◌, [], arith}
-use Rattle.row_list.specs.declared.sorting.SlottedRow.{SlottedRow}
 use Rattle.open_store.specs.Store.{table_at}
 use Rattle.store_core.specs.SlotContents.{IsListOf}
 use Rattle.std.proofs.lemmas.List.{get_or_default}

@@ -1,4 +1,4 @@
-use Rattle.std.proofs.Common.{rules, ◌≡◌, ◌+◌, ◌*◌, ◌<◌, ◌≤◌, ◌∷◌, [], IsTrue, refl, sym, ap, subst, ◌∙◌, arith}
+use Rattle.std.proofs.Common.{rules, ◌≡◌, ◌+◌, ◌<◌, ◌≤◌, ◌∷◌, [], IsTrue, refl, sym, ap, subst, ◌∙◌, arith}
 use Rattle.object_file.specs.ObjectFile.{slot_at}
 use Rattle.store_check.specs.Layout.{slot_pages}
 use Rattle.store_core.specs.SlotContents.{HasTables, HoldsTables, RefusesSlots, slots_before}

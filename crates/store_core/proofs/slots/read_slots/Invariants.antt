@@ -1,4 +1,4 @@
-use Rattle.std.proofs.Common.{◌≡◌, ◌≤◌, ℕ, IsTrue}
+use Rattle.std.proofs.Common.{◌≡◌, ◌≤◌, IsTrue}
 use Rattle.metrics_builtin.specs.declared.Space.{Space}
 use Rattle.spb_defs.specs.MetricOf.{IsMetricOf}
 use Rattle.object_file.specs.Calls.{PagesContinue}
