@@ -1,0 +1,3 @@
+pub mod SampleLines
+pub mod Answers
+pub mod Worked
