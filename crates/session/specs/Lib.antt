@@ -1,3 +1,5 @@
+pub mod Endings
+pub mod FileSession
 pub mod Queries
 pub mod Session
 pub mod Store

@@ -4,6 +4,11 @@
 //! pivots are chosen when the samples close, at the first command that isn't a sample.
 #![tactic(auto)]
 
+mod endings;
+mod file_lines;
+mod file_objects;
+mod file_queries;
+mod file_session;
 mod lines;
 mod mem_session;
 mod pivots;
@@ -12,4 +17,7 @@ mod store;
 #[cfg(test)]
 mod tests;
 
-pub use mem_session::{Ending, MemSession};
+pub use endings::Ending;
+pub use file_session::FileSession;
+pub use mem_session::MemSession;
+pub use open_store::First;

@@ -1,28 +1,18 @@
 ghost use Rattle.metric_laws.specs.Calls.{RulerContinues};
 ghost use Rattle.std.specs.Prelude.{◌≡◌, false, IsTrue, IfOk};
 
+use crate::endings::Ending;
 use crate::store::Store;
 use cmd_grammar::Reply;
 use metric_laws::{Metric, Ruler};
 use metrics_builtin::Space;
+use open_store::First;
 use spb_edge::{Line, Memory};
 use std::alloc::Global;
 use std::marker::Model;
-use thiserror::Error;
 
 #[cfg(test)]
 mod tests;
-
-/// Why a session gives no more replies.
-#[derive(Clone, Copy, Debug, PartialEq, Eq, Drop, Error)]
-pub enum Ending {
-    /// Memory ran out.
-    #[error("out of memory")]
-    NoMemory,
-    /// The session ended before.
-    #[error("the session has ended")]
-    Spent,
-}
 
 /// A session over a store in memory, with the space's metric.
 #[derive(Drop)]
@@ -46,14 +36,14 @@ impl<M: Metric> Model for MemSession<M> {
 }
 
 impl<M: Metric> MemSession<M> {
-    ghost use Rattle.std.specs.Prelude.{◌≡◌, ◌+◌, ◌^◌, ◌<◌, ◌≤◌, false, Err, IsTrue, IfOk};
+    ghost use Rattle.std.specs.Prelude.{◌≡◌, ◌+◌, ◌^◌, ◌<◌, ◌≤◌, false, IsTrue, IfOk};
     ghost use Rattle.metrics_builtin.specs.Space.{fits};
     ghost use Rattle.spb_edge.specs.declared.reader.Line.{Line};
     ghost use Rattle.spb_defs.specs.State.{empty_in_memory};
     ghost use Rattle.spb_defs.specs.MetricOf.{IsMetricOf};
     ghost use Rattle.spb_defs.specs.Step.{evals_of};
     ghost use Rattle.session.specs.Session.{AnswersTurn};
-    ghost use Rattle.session.specs.declared.mem_session.Ending.{Ending};
+    ghost use Rattle.session.specs.Endings.{StaysIfSpent};
 
     /// A session over an empty store of the space, which `metric` measures. This many pivots are wanted, 0 to
     /// 8. It takes no memory.
@@ -99,10 +89,12 @@ impl<M: Metric> MemSession<M> {
         ensures ruler { RulerContinues R.kind R.count ruler.old ruler.new }
         ensures count { IfOk result (λ said. R.count ruler.new ≡ R.count ruler.old + evals_of said) }
         ensures few { IfOk result (λ said. evals_of said ≤ 2 ^ 32) }
-        ensures spent { result ≡ Err Ending.Spent → ruler.new ≡ ruler.old }
+        ensures spent { StaysIfSpent result ruler.old ruler.new }
     {
         if self.ended {
-            return Err(Ending::Spent);
+            return Err(Ending::Spent {
+                first: First::Memory,
+            });
         }
         match self.store.turn(alloc, &self.metric, ruler, line) {
             Ok(reply) => Ok(reply),

@@ -6,6 +6,8 @@ use super::*;
 use cmd_grammar::{Reply, What};
 use metric_laws::Counted;
 use metrics_builtin::{L1, SetDiff, Space};
+use open_store::First;
+use page_laws::Rule;
 use spb_edge::{Bytes, Line, Memory};
 use std::alloc::Global;
 use std::test::Fail;
@@ -161,9 +163,16 @@ fn a_session_of_sets(rt: HostRuntime) -> Result<(), Fail> {
 
 #[test]
 fn endings_in_words(rt: HostRuntime) -> Result<(), Fail> {
+    let rule = Rule::Slot;
+    let first = First::Memory;
     for (e, text) in [
+        (Ending::DiskFault, "disk fault"),
+        (
+            Ending::Damaged { page: 85, rule },
+            "damaged page 85 rule slot",
+        ),
         (Ending::NoMemory, "out of memory"),
-        (Ending::Spent, "the session has ended"),
+        (Ending::Spent { first }, "the session has ended"),
     ] {
         assert!(rt; format!(in rt.alloc(); "{e}")?.as_str() == text);
     }

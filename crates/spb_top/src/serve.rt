@@ -91,7 +91,7 @@ fn take_turn<T: Turns, M: Metric>(
     match session.turn(alloc, &mut Counted::new(metric), line) {
         Ok(reply) => write_reply(space, &reply, text),
         Err(Ending::NoMemory) => Err(Memory),
-        Err(Ending::Spent) => unreachable!(),
+        Err(Ending::DiskFault | Ending::Damaged { .. } | Ending::Spent { .. }) => unreachable!(),
     }
 }
 

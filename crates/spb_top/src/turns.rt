@@ -9,15 +9,14 @@ use std::alloc::Global;
 
 /// A session, which takes one line after the other and goes on from state to state.
 pub(crate) trait Turns {
-    ghost use Rattle.std.specs.Prelude.{◌≡◌, ℕ, ◌^◌, ◌<◌, ◌≤◌, Bool, false, Err, IfOk, OnOk};
+    ghost use Rattle.std.specs.Prelude.{◌≡◌, ℕ, ◌^◌, ◌<◌, ◌≤◌, Bool, false, IfOk, OnOk};
     ghost use Rattle.spb_edge.specs.declared.reader.Line.{Line};
     ghost use Rattle.metrics_builtin.specs.declared.Space.{Space};
     ghost use Rattle.spb_defs.specs.MetricOf.{IsMetricOf};
     ghost use Rattle.spb_defs.specs.State.{State};
     ghost use Rattle.spb_defs.specs.Step.{reply, next_state};
     ghost use Rattle.cmd_grammar.specs.HoldsObject.{HoldsObject};
-    ghost use Rattle.session.specs.declared.mem_session.Ending.{Ending};
-    ghost use Rattle.spb_top.specs.Turns.{Leads};
+    ghost use Rattle.spb_top.specs.Turns.{Leads, EndsForMemory};
 
     // the space of its objects
     ghost space: { Self → Space };
@@ -48,7 +47,7 @@ pub(crate) trait Turns {
         ensures object { IfOk result (λ said. HoldsObject (space self.old) said) }
         ensures space { space self.new ≡ space self.old }
         ensures open { OnOk result (ended self.new ≡ false) }
-        ensures spent { ended self.old ≡ false → result ≡ Err Ending.Spent → ⊥ }
+        ensures ends { ended self.old ≡ false → EndsForMemory result }
         ensures faults { faults self.old ≤ faults self.new }
         ensures name { name self.new ≡ name self.old };
 

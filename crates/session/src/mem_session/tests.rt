@@ -21,13 +21,17 @@ fn an_ended_session_answers_no_more(rt: HostRuntime) -> Result<(), Fail> {
     assert!(rt;
         matches!(
             session.turn(alloc, &mut ruler, &Line::Long),
-            Err(Ending::Spent)
+            Err(Ending::Spent {
+                first: First::Memory
+            })
         )
     );
     assert!(rt;
         matches!(
             session.turn(alloc, &mut ruler, &Line::Long),
-            Err(Ending::Spent)
+            Err(Ending::Spent {
+                first: First::Memory
+            })
         )
     );
     Ok(())
