@@ -1,5 +1,5 @@
 -- What the answers of a store in a file make of a session's state.
-use Rattle.std.proofs.Common.{◌≡◌, inl, ℕ, Bool, true, false, IsTrue, List, Option, None, Some, Result, Ok, Err, refl, sym, ap, subst, ◌∙◌, arith}
+use Rattle.std.proofs.Common.{◌≡◌, inl, ℕ, Bool, true, false, List, Option, None, Some, Err, refl, sym, ap, subst, ◌∙◌, arith}
 use Rattle.std.specs.Prelude.{◌==◌, is_some, if◌then◌else◌, IsSome, IfOk, OnOk}
 use Rattle.std.proofs.lemmas.Option.{same_Some}
 use Rattle.spb_edge.specs.Crash.{Includes, IsDurable, CrashesLeaveOnly}

@@ -22,9 +22,6 @@ use spb_edge::{Disk, Line};
 use std::alloc::Global;
 use std::marker::Model;
 
-#[cfg(test)]
-mod tests;
-
 /// A session over a store in a file.
 ///
 /// It goes on from the state that the store stands for. Every change is one change of the file: a crash leaves the file

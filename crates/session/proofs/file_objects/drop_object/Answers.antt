@@ -1,4 +1,4 @@
-use Rattle.std.proofs.Common.{◌≡◌, Option, None, Result, Err, sym, subst}
+use Rattle.std.proofs.Common.{◌≡◌, Option, Result, Err, sym, subst}
 use Rattle.std.specs.Prelude.{IfOk, OnOk}
 use Rattle.spb_edge.specs.Crash.{CrashesLeaveOnly}
 use Rattle.spb_defs.specs.declared.Command.TheVariants.{Discard}

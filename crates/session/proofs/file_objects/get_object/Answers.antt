@@ -2,7 +2,6 @@ use Rattle.std.proofs.Common.{◌≡◌, Result, sym, subst}
 use Rattle.std.specs.Prelude.{IfOk, OnOk}
 use Rattle.spb_defs.specs.declared.Command.TheVariants.{Get}
 use Rattle.spb_defs.specs.declared.Reply.{Reply}
-use Rattle.spb_defs.specs.State.{State}
 use Rattle.spb_defs.specs.Step.{reply_of, changed_state}
 use Rattle.open_store.specs.declared.errors.First.{First}
 use Rattle.open_store.specs.Store.{StoreView, IsInState}
