@@ -2,7 +2,9 @@
 #![tactic(auto)]
 
 mod choice;
+mod objects;
 #[cfg(test)]
 mod tests;
 
 pub use choice::choose;
+pub use objects::{Choice, choose_objects};

@@ -1,5 +1,4 @@
 pub mod FileLaws
-pub mod Choosing
 pub mod Evaluations
 pub mod QueryLaws
 pub mod Sound

@@ -11,7 +11,6 @@ mod file_queries;
 mod file_session;
 mod lines;
 mod mem_session;
-mod pivots;
 mod queries;
 mod store;
 #[cfg(test)]

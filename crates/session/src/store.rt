@@ -1,11 +1,11 @@
 //! The store in memory.
 
 use crate::lines::read_line;
-use crate::pivots::chosen_pivots;
 use crate::queries::{join_of, near_of, range_of};
 use cmd_grammar::{Command, Reply};
 use metric_laws::{Counted, Metric, Ruler};
 use metrics_builtin::Space;
+use pivot_choice::choose_objects;
 use pivot_map::{Row, map_object};
 use row_table::RowTable;
 use spb_defs::{MEMORY_CAP, SAMPLE_LIMIT};
@@ -189,8 +189,9 @@ impl Store {
         if !self.sampling {
             return Ok(());
         }
-        let pivots = chosen_pivots(alloc, metric, self.samples.as_slice(), self.wanted)?;
-        self.pivots = pivots;
+        let samples = self.samples.as_slice();
+        let choice = choose_objects(alloc, metric, samples, self.wanted as usize)?;
+        self.pivots = choice.pivots;
         self.sampling = false;
         self.samples.clear();
         Ok(())
