@@ -15,12 +15,13 @@ use Rattle.store_check.specs.Layout.{file_pages}
 use Rattle.store_check.specs.Profile.{profile_in}
 use Rattle.store_check.specs.Pivots.{pivot_in, pivot_at}
 use Rattle.store_check.specs.Stands.{IsPaged, IsNoStore}
-use Rattle.store_check.specs.Damage.{IsPivot, HasPivot, Breaks}
+use Rattle.store_check.specs.Damage.{IsPivot, HasPivot, HasGoodPivots, Breaks}
 use Rattle.store_check.proofs.Reading.{read_format, never}
 use Rattle.store_core.specs.Opening.{IsStarted, IsFirstRule}
 use Rattle.store_core.proofs.Starting.{one_total}
 
-same : (p q : Profile) → Some p ≡ Some q → p ≡ q
+-- a page reads as one profile
+pub same : (p q : Profile) → Some p ≡ Some q → p ≡ q
 same p q is = cc
 
 -- no file has more pages than a number of 32 bits counts
@@ -29,7 +30,7 @@ few_pages cap few = omega (arith, few)
 
 module _ (old new : List ℕ) (profile : Profile) (pivots : List (List ℕ)) (started : IsStarted old new profile pivots) where
   -- the profile page as redone
-  reads : profile_in (redo_page old 1) ≡ Some profile
+  pub reads : profile_in (redo_page old 1) ≡ Some profile
   reads = ap profile_in (started.had.pages_are 1 (inl (omega arith, omega arith))) ∙ started.reads
 
   -- as many pages as those of the cap
@@ -55,6 +56,17 @@ module _ (old new : List ℕ) (profile : Profile) (pivots : List (List ℕ)) (st
     λ before. All-get_or (IsValid profile.space) pivots place [] (subst (λ n. place < n) (sym started.count) before) started.objects,
     λ past. get_or_past pivots place [] (subst (λ n. n ≤ place) (sym started.count) past),
   )
+
+  pub good_pivots : HasGoodPivots old profile
+  good_pivots = record {
+    fits = record {
+      marked = record { long = let size = started.had.size in let least = started.had.least in omega (arith, size, least); marks_are = started.had.marks_are };
+      paged = paged;
+      clean = started.had.clean;
+      reads = reads;
+    };
+    each = good_record;
+  }
 
   pub breaks_no_first : (page : ℕ) (broken : Rule) → IsFirstRule broken → Breaks old page broken → ⊥
   breaks_no_first page rule.Size first (at, inl bad) = bad.never (file_pages profile.cap) paged

@@ -3,6 +3,7 @@ pub mod Sizes
 pub mod Starting
 pub mod Crashes
 pub mod Excluding
+pub mod BreaksAlike
 pub mod SlotLists
 pub mod SlotSteps
 pub mod PageSteps

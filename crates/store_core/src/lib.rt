@@ -13,7 +13,7 @@ mod slots;
 mod steps;
 
 pub use errors::OpenError;
-pub use laws::started_is_not_refused;
+pub use laws::{started_breaks_alike, started_is_not_refused};
 pub use opened_laws::{opened_or_damaged, started_is_opened};
 pub use opening::{Opening, OpeningParts};
 
