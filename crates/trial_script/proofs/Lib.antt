@@ -1,0 +1,5 @@
+pub mod Drawing
+pub mod Ranges
+pub mod Places
+pub mod Bounds
+pub mod Commands
