@@ -1,0 +1,4 @@
+mod Folding
+mod PlainNumbers
+mod PlainWords
+mod Reading
