@@ -7,23 +7,26 @@ ghost use Rattle.std.specs.String.{string_bytes};
 ghost use Rattle.std.specs.Io.KnownBytes.{Appends};
 ghost use Rattle.std.specs.IoError.{error_kind};
 ghost use Rattle.std.specs.Process.{exit_status};
-ghost use Rattle.spb_top.specs.Words.{setup_of};
+ghost use Rattle.spb_top.specs.Words.{asked_of};
 ghost use Rattle.spb_top.specs.Status.{code_of, status_text};
 
 mod streams;
 
-use spb_edge::{Bytes, SureDisk};
-use spb_top::{Status, code, run, status_line};
+use file_disk::FileDisk;
+use spb_edge::{Bytes, Disk, SureDisk};
+use spb_top::{FileUse, Status, code, file_of, run, status_line};
 use std::alloc::Global;
 use std::env::Env;
+use std::fs::{Files, OpenFile};
 use std::io::{ErrorKind, Read, Write};
+use std::os::unix::fs::FileExt;
 use std::process::ExitCode;
-use std::{env, io};
+use std::{env, io, str};
 use streams::{StdSink, StdSource};
 
 fn main(rt: HostRuntime) -> ExitCode {
     let status = match words(&rt) {
-        Ok(words) => work(rt.alloc(), words.as_slice(), rt.stdin(), rt.stdout()),
+        Ok(words) => work(rt.alloc(), &rt, words.as_slice(), rt.stdin(), rt.stdout()),
         Err(status) => status,
     };
     end_with(rt.alloc(), &status, rt.stderr())
@@ -55,19 +58,83 @@ fn status_of(error: &io::Error) -> Status
     Status::Usage
 }
 
-/// Runs the words over the streams, with an empty store in memory.
-fn work<R: Read + Drop, W: Write + Drop>(
+/// Runs the words over the streams and the file that they name, which is opened, or made if a store is to be made in it. A
+/// file that can't be opened fails at each call.
+fn work<F: FileExt + OpenFile + Drop, H: Files<File = F>, R: Read + Drop, W: Write + Drop>(
+    alloc: Global,
+    files: &H,
+    words: &[String],
+    reader: R,
+    writer: W,
+) -> Status
+    ensures usage { result ≡ Status.Usage → asked_of (map string_bytes words.now) ≡ None }
+    ensures others { asked_of (map string_bytes words.now) ≡ None → result ≡ Status.Usage ⊎ result ≡ Status.NoMemory }
+{
+    match file_of(alloc, words) {
+        Ok(FileUse::None) => work_in_memory(alloc, words, reader, writer),
+        Ok(FileUse::Old(name)) => {
+            work_over(
+                alloc,
+                words,
+                reader,
+                writer,
+                existing(files, name.as_slice()),
+            )
+        }
+        Ok(FileUse::New(name)) => {
+            work_over(alloc, words, reader, writer, made(files, name.as_slice()))
+        }
+        Err(_) => Status::NoMemory,
+    }
+}
+
+/// The file of this name, which is there.
+fn existing<F: FileExt + OpenFile + Drop, H: Files<File = F>>(
+    files: &H,
+    name: &[u8],
+) -> FileDisk<F> {
+    match str::from_utf8(name) {
+        Ok(path) => FileDisk::open_existing(files, path),
+        Err(_) => FileDisk::absent(),
+    }
+}
+
+/// The file of this name, which is made if it isn't there.
+fn made<F: FileExt + OpenFile + Drop, H: Files<File = F>>(files: &H, name: &[u8]) -> FileDisk<F> {
+    match str::from_utf8(name) {
+        Ok(path) => FileDisk::open_or_make(files, path),
+        Err(_) => FileDisk::absent(),
+    }
+}
+
+/// Runs words that name no file over the streams.
+fn work_in_memory<R: Read + Drop, W: Write + Drop>(
     alloc: Global,
     words: &[String],
     reader: R,
     writer: W,
 ) -> Status
-    ensures usage { result ≡ Status.Usage → setup_of (map string_bytes words.now) ≡ None }
-    ensures others { setup_of (map string_bytes words.now) ≡ None → result ≡ Status.Usage ⊎ result ≡ Status.NoMemory }
+    ensures usage { result ≡ Status.Usage → asked_of (map string_bytes words.now) ≡ None }
+    ensures others { asked_of (map string_bytes words.now) ≡ None → result ≡ Status.Usage ⊎ result ≡ Status.NoMemory }
 {
-    let Ok(mut disk) = SureDisk::new(alloc, &[]) else {
-        return Status::NoMemory;
-    };
+    match SureDisk::new(alloc, &[]) {
+        Ok(disk) => work_over(alloc, words, reader, writer, disk),
+        Err(_) => Status::NoMemory,
+    }
+}
+
+/// Runs the words over the streams and the disk.
+fn work_over<R: Read + Drop, W: Write + Drop, D: Disk + Drop>(
+    alloc: Global,
+    words: &[String],
+    reader: R,
+    writer: W,
+    disk: D,
+) -> Status
+    ensures usage { result ≡ Status.Usage → asked_of (map string_bytes words.now) ≡ None }
+    ensures others { asked_of (map string_bytes words.now) ≡ None → result ≡ Status.Usage ⊎ result ≡ Status.NoMemory }
+{
+    let mut disk = disk;
     let mut input = StdSource::new(reader);
     let mut output = StdSink::new(writer);
     run(alloc, words, &mut input, &mut output, &mut disk)
@@ -185,14 +252,14 @@ mod tests {
         ]?;
         let line = b"add 0 1 0,0\n".as_slice();
         let mut text = Vec::new(rt.alloc());
-        let torn = work(rt.alloc(), words.as_slice(), Torn(line), &mut text);
+        let torn = work(rt.alloc(), &rt, words.as_slice(), Torn(line), &mut text);
         assert!(rt; matches!(torn, Status::ReadFault));
         assert!(rt; text.as_slice() == b"ok\n".as_slice());
         let mut none = [0u8; 0];
-        let full = work(rt.alloc(), words.as_slice(), line, none.as_mut_slice());
+        let full = work(rt.alloc(), &rt, words.as_slice(), line, none.as_mut_slice());
         assert!(rt; matches!(full, Status::WriteFault));
         let mut text = Vec::new(rt.alloc());
-        let done = work(rt.alloc(), words.as_slice(), line, &mut text);
+        let done = work(rt.alloc(), &rt, words.as_slice(), line, &mut text);
         assert!(rt; matches!(done, Status::Done));
         assert!(rt; text.as_slice() == b"ok\n".as_slice());
         Ok(())

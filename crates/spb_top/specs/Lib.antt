@@ -1,8 +1,14 @@
 pub mod Status
-pub mod Run
+pub mod Outside
+pub mod Written
 pub mod Turns
-pub mod CommandLine
-pub mod Matched
+pub mod FileTurns
+pub mod Causes
+pub mod Files
+pub mod Opened
+pub mod Counted
+pub mod Plans
+pub mod Trials
 pub use Rattle.spb_defs.specs.State
 pub use Rattle.spb_defs.specs.Play
 pub use Rattle.spb_defs.specs.Words

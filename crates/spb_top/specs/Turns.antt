@@ -1,32 +1,69 @@
 -- How sessions go on from state to state, and how they end.
-use Rattle.std.proofs.Common.{◌≡◌, List, [], ◌∷◌, ◌++◌, refl, sym, ap, ◌∙◌}
-use Rattle.std.specs.Prelude.{Result, Ok, Err}
+use Rattle.std.specs.Prelude.{◌≡◌, ℕ, ◌+◌, ◌≤◌, ◌<◌, List, [], ◌∷◌, ◌++◌, length, take, Contains, Result, Ok, Err}
+use Rattle.spb_edge.specs.Fault.{HasRisen}
 use Rattle.spb_edge.specs.declared.reader.Line.{Line}
 use Rattle.spb_defs.specs.declared.Reply.{Reply}
 use Rattle.spb_defs.specs.State.{State}
 use Rattle.spb_defs.specs.Step.{next_state}
+use Rattle.spb_defs.specs.Play.{play_lines}
 use Rattle.spb_defs.specs.Changes.{state_after_lines}
+use Rattle.store_check.specs.Stands.{Stands}
 use Rattle.session.specs.declared.endings.Ending.{Ending}
 use Rattle.session.specs.declared.endings.Ending.TheVariants as ending
+use Rattle.spb_top.specs.declared.status.Status.{Status}
+use Rattle.spb_top.specs.declared.status.Status.TheVariants.{Done, Usage, NoMemory, ReadFault, WriteFault, DiskFault, NotStore, Damaged, InputLimit, TooWide, NoSample, BadSample, NotEmpty}
 
--- some lines lead from the one state to the other
-abbrev pub Leads : State → State → Type 0
-Leads s t = (lines : List Line) × (t ≡ state_after_lines s lines)
+-- ---- states
 
-state_after_lines-push : (s : State) (lines : List Line) (line : Line) → state_after_lines s (lines ++ line ∷ []) ≡ next_state (state_after_lines s lines) line
-state_after_lines-push s [] line = refl
-state_after_lines-push s (first ∷ lines) line = state_after_lines-push (next_state s first) lines line
+-- the states that lines lead through: the first, and the one after each line
+abbrev pub states_through : State → List Line → List State
+states_through s [] = s ∷ []
+states_through s (line ∷ lines) = s ∷ states_through (next_state s line) lines
 
-pub Leads-nowhere : (s : State) → Leads s s
-Leads-nowhere s = ([], refl)
+-- the image stands for one of the states
+abbrev pub StandsForOne : List State → List ℕ → Type 0
+StandsForOne states image = (s : State) × Contains states s × Stands image s
 
-pub Leads-next_state : (s t : State) (line : Line) → Leads s t → Leads s (next_state t line)
-Leads-next_state s t line (lines, at) = (lines ++ line ∷ [], ap (λ (t : State). next_state t line) at ∙ sym (state_after_lines-push s lines line))
+-- ---- what was answered
 
--- a session that hasn't ended gives a reply, or ends for want of memory: no store in a file is served
-abbrev pub EndsForMemory : Result Reply Ending → Type 0
-EndsForMemory (Ok said) = Unit {0}
-EndsForMemory (Err ending.DiskFault) = ⊥
-EndsForMemory (Err (ending.Damaged page rule)) = ⊥
-EndsForMemory (Err ending.NoMemory) = Unit {0}
-EndsForMemory (Err (ending.Spent first)) = ⊥
+-- a text begins with these bytes
+abbrev pub BeginsWith : List ℕ → List ℕ → Type 0
+BeginsWith front text = (more : List ℕ) × (text ≡ front ++ more)
+
+-- the replies to this many lines begin with what was written, and those to fewer lines don't
+pub record AnsweredLines (s : State) (lines : List Line) (written : List ℕ) (many : ℕ) : Type 0 where
+  pub within : many ≤ length lines
+  pub begins : BeginsWith written (play_lines s (take many lines))
+  pub least : (fewer : ℕ) → fewer < many → BeginsWith written (play_lines s (take fewer lines)) → ⊥
+
+-- the state after this many lines, and the state after one line more, if there is one
+abbrev pub states_after : State → List Line → ℕ → List State
+states_after s lines many = state_after_lines s (take many lines) ∷ state_after_lines s (take (many + 1) lines) ∷ []
+
+-- ---- endings
+
+-- a session that hadn't ended doesn't answer that it had
+abbrev pub IsUnspent : Result Reply Ending → Type 0
+IsUnspent (Ok said) = Unit {0}
+IsUnspent (Err ending.DiskFault) = Unit {0}
+IsUnspent (Err (ending.Damaged page rule)) = Unit {0}
+IsUnspent (Err ending.NoMemory) = Unit {0}
+IsUnspent (Err (ending.Spent first)) = ⊥
+
+-- why there is no reply: memory ran out, the disk counted a fault, or a page is damaged; the count of faults never falls
+abbrev pub StopsTurn : {A : Type 0} → Result A Status → ℕ → ℕ → Type 0
+StopsTurn (Ok _) before now = before ≤ now
+StopsTurn (Err NoMemory) before now = before ≤ now
+StopsTurn (Err DiskFault) before now = (before ≤ now) × HasRisen before now
+StopsTurn (Err (Damaged page rule)) before now = before ≤ now
+StopsTurn (Err _) before now = ⊥
+
+-- nothing is damaged
+abbrev pub IsUndamaged : Status → Type 0
+IsUndamaged (Damaged page rule) = ⊥
+IsUndamaged _ = Unit {0}
+
+-- the same of a turn
+abbrev pub IsUndamagedStop : {A : Type 0} → Result A Status → Type 0
+IsUndamagedStop (Ok _) = Unit {0}
+IsUndamagedStop (Err status) = IsUndamaged status

@@ -5,7 +5,10 @@ ghost use Rattle.spb_top.specs.Status.{code_of, status_text, damaged_text, bad_s
 
 use itoa::Buffer;
 use page_laws::Rule;
+use sample_lines::SampleError;
 use spb_edge::{Bytes, Memory};
+use store_core::OpenError;
+use store_format::FormatError;
 
 /// How a run ended.
 #[derive(Clone, Copy, Debug, PartialEq, Eq)]
@@ -117,10 +120,58 @@ fn bad_sample_line(line: u64, text: &mut Bytes) -> Result<(), Memory>
 }
 
 /// Puts the words and the number at the end of `text`. The digits stand on the stack before.
-fn append_number(words: &[u8], n: u64, text: &mut Bytes) -> Result<(), Memory>
+pub(crate) fn append_number(words: &[u8], n: u64, text: &mut Bytes) -> Result<(), Memory>
     ensures { OnOk result (text.new ≡ text.old ++ words.now ++ decimal n) }
 {
     let mut buffer = Buffer::new();
     text.append(words)?;
     text.append(buffer.format(n).as_bytes())
+}
+
+impl From<OpenError> for Status {
+    ghost use Rattle.std.specs.Prelude.{◌≡◌};
+    ghost use Rattle.spb_top.specs.Causes.{refused_by};
+
+    ghost from_gives = { λ refusal status. status ≡ refused_by refusal };
+
+    fn from(refusal: OpenError) -> Status {
+        match refusal {
+            OpenError::NotStore => Status::NotStore,
+            OpenError::Damaged { page, rule } => Status::Damaged { page, rule },
+            OpenError::DiskFault => Status::DiskFault,
+            OpenError::Memory => Status::NoMemory,
+        }
+    }
+}
+
+impl From<SampleError> for Status {
+    ghost use Rattle.std.specs.Prelude.{◌≡◌};
+    ghost use Rattle.spb_top.specs.Causes.{unsampled_by};
+
+    ghost from_gives = { λ e status. status ≡ unsampled_by e };
+
+    fn from(e: SampleError) -> Status {
+        match e {
+            SampleError::ReadFault => Status::ReadFault,
+            SampleError::InputLimit => Status::InputLimit,
+            SampleError::NoSample => Status::NoSample,
+            SampleError::BadSample { line } => Status::BadSample { line },
+            SampleError::Memory => Status::NoMemory,
+        }
+    }
+}
+
+impl From<FormatError> for Status {
+    ghost use Rattle.std.specs.Prelude.{◌≡◌};
+    ghost use Rattle.spb_top.specs.Causes.{unmade_by};
+
+    ghost from_gives = { λ e status. status ≡ unmade_by e };
+
+    fn from(e: FormatError) -> Status {
+        match e {
+            FormatError::NotEmpty => Status::NotEmpty,
+            FormatError::DiskFault => Status::DiskFault,
+            FormatError::Memory => Status::NoMemory,
+        }
+    }
 }

@@ -1,6 +1,0 @@
-use Rattle.std.proofs.Common.{◌∙◌}
-use Rattle.spb_top.proofs.PlainNumbers.{number_in_64_bits}
-use Rattle.spb_top.proofs.words.matched.seed.Goals as goal
-
-pub returns : goal.returns
-returns c = c.number.ensures ∙ number_in_64_bits c.args.word.now
