@@ -29,7 +29,7 @@ const OTHER_WORDS: [&[&str]; 22] = [
     &["mem", "l1", "2", "255", "02"],
     &["--help"],
     &["help"],
-    &["run", "a.spb"],
+    &["run"],
 ];
 
 /// Whether the words are refused by the program and by the plain one, and nothing is written.
