@@ -3,17 +3,11 @@ use Rattle.std.proofs.Common.{◌≡◌, ℕ, ◌≤◌, Bool, true, false, IsTr
 use Rattle.std.proofs.lemmas.Result.{on_ok_weaker}
 use Rattle.spb_edge.specs.declared.disk.Disk as disk
 use Rattle.spb_edge.specs.declared.reader.Line.{Line}
-use Rattle.spb_edge.specs.Calls.{StaysKnown}
-use Rattle.spb_edge.specs.Crash.{Includes, IsDurable, CrashesLeaveOnly}
+use Rattle.spb_edge.specs.Crash.{Includes, IsDurable}
 use Rattle.spb_edge.specs.Moments.{weaker, joined}
 use Rattle.spb_defs.specs.State.{State}
 use Rattle.spb_defs.specs.Changes.{state_after_lines}
-use Rattle.redo_journal.specs.Pages.{page}
-use Rattle.redo_journal.specs.Redo.{has_open_gate}
-use Rattle.store_check.specs.Opened.{state_in}
 use Rattle.store_check.specs.Stands.{Stands}
-use Rattle.store_check.proofs.Standing.{one}
-use Rattle.open_store.specs.Store.{StoreView, IsInState}
 use Rattle.open_store.proofs.States.{stored_stands}
 use Rattle.session.specs.FileSession.{FileView}
 use Rattle.page_laws.specs.declared.rule.Rule.{Rule}
@@ -24,17 +18,15 @@ use Rattle.store_core.specs.declared.opening.Opening.{Opening}
 use Rattle.store_core.specs.Errors.{CountsRefusal}
 use Rattle.store_core.specs.Finish.{RefusesOpened}
 use Rattle.store_core.specs.Opening.{Refuses}
-use Rattle.store_core.specs.Parts.{disk_in, profile_of}
+use Rattle.store_core.specs.Parts.{disk_in}
 use Rattle.trial_script.specs.declared.totals.Totals.{Totals}
 use Rattle.spb_top.specs.declared.status.Status.{Status}
 use Rattle.spb_top.specs.declared.status.Status.TheVariants.{Done, Usage, NoMemory, ReadFault, WriteFault, DiskFault, NotStore, Damaged, InputLimit, TooWide, NoSample, BadSample, NotEmpty}
-use Rattle.spb_top.specs.Outside.{known_image}
-use Rattle.spb_top.specs.Causes.{IsKnownStore, refused_by}
+use Rattle.spb_top.specs.Causes.{refused_by}
 use Rattle.spb_top.specs.FileTurns.{HoldsFile, LeavesFile}
 use Rattle.spb_top.specs.Opened.{IsSettled, IsTurnedAway, StandsFor}
 use Rattle.spb_top.specs.Trials.{IsTried, HasTotals, StopsTrial}
 use Rattle.spb_top.specs.Turns.{IsUndamagedStop, StandsForOne, StopsTurn, states_through}
-use Rattle.spb_top.proofs.KnownImages.{known_store}
 use Rattle.spb_top.proofs.OpenedFiles.{risen_later, Leaves, IsBegun, known_too}
 use Rattle.spb_top.proofs.ServedStores.{through_first, IsMade, holds, leaves}
 

@@ -73,6 +73,11 @@ pub(crate) fn try_file<K: Sink, D: Disk>(
 }
 
 /// Makes the store of a trial on an empty disk, and runs the script on it.
+///
+/// # Errors
+///
+/// The status with which the run ends: want of memory, a fault of the disk, or a store that isn't opened or is damaged, which
+/// never comes over a disk whose bytes are known.
 fn make_and_run<D: Disk>(
     alloc: Global,
     seed: u64,
@@ -113,6 +118,10 @@ fn trial_plan() -> Plan
 }
 
 /// Makes the store of the trial's profile, with pivots from the trial's samples.
+///
+/// # Errors
+///
+/// The status with which the run ends: want of memory, or a fault of the disk.
 fn make_trial<D: Disk>(alloc: Global, seed: u64, disk: &mut D) -> Result<(), Status>
     requires empty { D.size_of disk.old ≡ 0 }
     ensures any_moment { IsTrue (D.is_known disk.old) → IsTrue (D.knows_crashes disk.old) → IsDurable (D.image disk.old) (D.crash_states disk.old)
@@ -137,6 +146,10 @@ fn make_trial<D: Disk>(alloc: Global, seed: u64, disk: &mut D) -> Result<(), Sta
 }
 
 /// Opens the store that was made, and takes the lines of the trial one by one.
+///
+/// # Errors
+///
+/// As those of [`make_and_run`].
 fn run_trial<D: Disk>(alloc: Global, seed: u64, count: u32, disk: &mut D) -> Result<Totals, Status>
     ensures totals { IsTrue (D.is_known disk.old) → (first : State) → Stands (D.image disk.old) first → HasTotals first (trial_lines seed count) result }
     ensures any_moment { IsTrue (D.is_known disk.old) → IsTrue (D.knows_crashes disk.old) → IsDurable (D.image disk.old) (D.crash_states disk.old)
@@ -213,6 +226,10 @@ fn run_store<'a, M: Metric, D: Disk>(
 }
 
 /// Takes the lines that are left one by one, and sums up their replies.
+///
+/// # Errors
+///
+/// The status with which the run ends: want of memory, a fault of the disk, or a damaged page.
 fn turn_all<T: Turns, M: Metric>(
     alloc: Global,
     session: &mut T,
