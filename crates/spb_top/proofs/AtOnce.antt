@@ -1,5 +1,5 @@
 -- What the end of a run says if it comes before a line is answered.
-use Rattle.std.proofs.Common.{◌≡◌, ◌∙◌, ap, sym, subst, refl, ℕ, zero, suc, ◌+◌, ◌<◌, List, [], ◌∷◌, ◌++◌, length, take, Option, Some, length-append, arith}
+use Rattle.std.proofs.Common.{◌≡◌, ◌∙◌, ap, sym, subst, refl, ℕ, zero, suc, List, [], ◌++◌, length, take, Option, Some, length-append, arith}
 use Rattle.std.proofs.lemmas.List.{nil_from_length}
 use Rattle.spb_edge.specs.declared.reader.Line.{Line}
 use Rattle.spb_defs.specs.State.{State}

@@ -1,9 +1,8 @@
 -- If nothing is in the way of the work and nothing failed, it was done, or memory ran out.
-use Rattle.std.proofs.Common.{◌≡◌, ◌∙◌, ap, sym, subst, ℕ, ◌≤◌, List, [], ◌∷◌, ◌++◌, map, length, Option, Some, None, Result, arith}
-use Rattle.std.specs.Prelude.{IfSome, IsTrue, ◌*◌, ◌^◌, ◌<◌}
+use Rattle.std.proofs.Common.{◌≡◌, ◌∙◌, ap, sym, ℕ, List, [], ◌∷◌, ◌++◌, map, length, Option, Some, None, arith}
+use Rattle.std.specs.Prelude.{IfSome, ◌^◌, ◌<◌}
 use Rattle.std.proofs.lemmas.Option.{none-some}
 use Rattle.std.proofs.lemmas.Bool.{false≢true}
-use Rattle.spb_edge.specs.declared.reader.Line.{Line}
 use Rattle.spb_edge.specs.Lines.{lines_of}
 use Rattle.spb_edge.specs.LineLaws.{lines_of-nil}
 use Rattle.metrics_builtin.specs.declared.Space.{Space}
@@ -15,11 +14,10 @@ use Rattle.spb_defs.specs.State.{State}
 use Rattle.store_check.specs.Stands.{Stands, IsNoStore}
 use Rattle.store_check.specs.Damage.{Breaks}
 use Rattle.sample_lines.specs.SampleLines.{IsFirstBad, sample_of}
-use Rattle.sample_lines.specs.Answers.{GivesSamples}
 use Rattle.spb_top.specs.declared.status.Status.{Status}
 use Rattle.spb_top.specs.declared.status.Status.TheVariants.{Done, Usage, NoMemory, ReadFault, WriteFault, DiskFault, NotStore, Damaged, InputLimit, TooWide, NoSample, BadSample, NotEmpty}
 use Rattle.spb_top.specs.Outside.{Outside}
-use Rattle.spb_top.specs.Causes.{CauseOf, CanWork, Completes, IsDoneOrNoMemory, IsRefused, IsWhole, IsKnown, IsWithinLimit, AreSamples, HasBadSample, HasNoSample}
+use Rattle.spb_top.specs.Causes.{CauseOf, CanWork, Completes, IsRefused, IsWhole, IsKnown, IsWithinLimit, AreSamples}
 
 -- ---- lines
 

@@ -24,7 +24,7 @@ use Rattle.spb_defs.specs.Step.{next_state}
 use Rattle.spb_defs.specs.Play.{play_lines, play, play_ended}
 use Rattle.spb_defs.specs.Changes.{state_after_lines}
 use Rattle.spb_top.specs.declared.status.Status.{Status}
-use Rattle.spb_top.specs.declared.status.Status.TheVariants.{Done, Usage, NoMemory, ReadFault, WriteFault, DiskFault, NotStore, Damaged, InputLimit, TooWide, NoSample, BadSample, NotEmpty}
+use Rattle.spb_top.specs.declared.status.Status.TheVariants.{Done, NoMemory, DiskFault, Damaged}
 use Rattle.spb_top.specs.Written.{WritesPrefix, WritesReplies, LeavesInput}
 use Rattle.spb_top.specs.Outside.{Traffic, reader_traffic}
 use Rattle.spb_top.specs.Causes.{HasServingCause, stopped_by}

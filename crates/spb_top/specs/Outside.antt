@@ -1,6 +1,5 @@
 -- What happened outside of a run.
 use Rattle.std.specs.Prelude.{ℕ, ◌≤◌, Bool, List, Option, Some, None, if◌then◌else◌}
-use Rattle.spb_edge.specs.Fault.{HasRisen}
 use Rattle.spb_edge.specs.declared.source.Source as source
 use Rattle.spb_edge.specs.declared.sink.Sink as sink
 use Rattle.spb_edge.specs.declared.disk.Disk as disk

@@ -11,7 +11,7 @@ use Rattle.store_check.specs.Stands.{Stands}
 use Rattle.session.specs.declared.endings.Ending.{Ending}
 use Rattle.session.specs.declared.endings.Ending.TheVariants as ending
 use Rattle.spb_top.specs.declared.status.Status.{Status}
-use Rattle.spb_top.specs.declared.status.Status.TheVariants.{Done, Usage, NoMemory, ReadFault, WriteFault, DiskFault, NotStore, Damaged, InputLimit, TooWide, NoSample, BadSample, NotEmpty}
+use Rattle.spb_top.specs.declared.status.Status.TheVariants.{NoMemory, DiskFault, Damaged}
 
 -- ---- states
 
