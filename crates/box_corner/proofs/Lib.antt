@@ -1,0 +1,4 @@
+pub mod Bounds
+pub mod Corners
+pub mod Holding
+pub mod TreeCorners

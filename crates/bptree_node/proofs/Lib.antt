@@ -1,0 +1,4 @@
+pub mod ZeroGroups
+pub mod Spelling
+pub mod NodePages
+pub mod Views

@@ -1,0 +1,12 @@
+pub mod Nodes
+pub mod NodeViews
+pub mod NodeLaws
+pub mod Trees
+pub mod Lists
+pub mod EntryLaws
+pub mod TreeLaws
+pub mod TreeSizes
+pub mod Summaries
+pub mod SummaryLaws
+pub mod NoBoxes
+pub mod Worked
