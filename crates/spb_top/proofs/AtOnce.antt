@@ -1,5 +1,5 @@
 -- What the end of a run says if it comes before a line is answered.
-use Rattle.std.proofs.Common.{◌≡◌, ◌∙◌, ap, sym, subst, refl, ℕ, zero, suc, List, [], ◌++◌, length, take, Option, Some, length-append, arith}
+use Rattle.std.proofs.Common.{◌≡◌, ◌∙◌, ap, sym, subst, refl, ℕ, zero, suc, List, [], ◌++◌, length, take, Option, Some, None, length-append, arith}
 use Rattle.std.proofs.lemmas.List.{nil_from_length}
 use Rattle.spb_edge.specs.declared.reader.Line.{Line}
 use Rattle.spb_defs.specs.State.{State}
@@ -12,7 +12,7 @@ use Rattle.spb_defs.specs.declared.Asked.TheVariants.{Mem}
 use Rattle.spb_top.specs.declared.status.Status.{Status}
 use Rattle.spb_top.specs.declared.status.Status.TheVariants.{Done, Usage, NoMemory, ReadFault, WriteFault, DiskFault, NotStore, Damaged, InputLimit, TooWide, NoSample, BadSample, NotEmpty}
 use Rattle.spb_top.specs.Outside.{Outside}
-use Rattle.spb_top.specs.Causes.{CanWork, Completes, NoneRose, HasMemoryCause}
+use Rattle.spb_top.specs.Causes.{CanWork, Completes, NoneRose, HasMemoryCause, IsKnown}
 use Rattle.spb_top.proofs.Completing.{not_past as past}
 use Rattle.spb_top.specs.Turns.{AnsweredLines, StandsForOne, states_after}
 
@@ -38,6 +38,11 @@ acknowledged_at_once first lines before written taken many image was now answere
     (first, (0, omega arith, ap (λ n. state_after_lines first (take n lines)) none), stands)
 
 -- ---- the words
+
+-- what is known has its bytes
+pub known_bytes : (content : Option (List ℕ)) → IsKnown content → (bytes : List ℕ) × (content ≡ Some bytes)
+known_bytes (Some bytes) known = (bytes, refl)
+known_bytes None known = absurd known
 
 -- words ask for one thing
 pub same_words : {asked : Option Asked} (a b : Asked) → asked ≡ Some a → asked ≡ Some b → a ≡ b

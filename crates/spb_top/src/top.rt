@@ -12,7 +12,7 @@ ghost use Rattle.spb_defs.specs.Words.{asked_of};
 ghost use Rattle.store_check.specs.Stands.{Stands};
 ghost use Rattle.spb_top.specs.Written.{WritesReplies, WritesLine, LeavesInput};
 ghost use Rattle.spb_top.specs.Outside.{NoneFell, known_image, outside_of};
-ghost use Rattle.spb_top.specs.Causes.{Asks, HasCause, Completes, StopsSampling, answers_lines, reads_input, uses_disk, makes_store};
+ghost use Rattle.spb_top.specs.Causes.{Asks, HasCause, Completes, IsKnown, StopsSampling, answers_lines, reads_input, uses_disk, makes_store};
 ghost use Rattle.spb_top.specs.Files.{AnswersFrom, IsLineOf, EndsAs, IsKnownBefore, MayLeave};
 ghost use Rattle.spb_top.specs.Turns.{AnsweredLines, states_after, StandsForOne};
 
@@ -85,7 +85,8 @@ pub fn run<S: Source, K: Sink, D: Disk>(
     ensures stored { IsTrue (D.is_known disk.old) → (asked : Asked) → asked_of (map string_bytes words.now) ≡ Some asked → result ≡ Status.Done
         → EndsAs asked (outside_of S.Source K.Sink D.Disk input.old input.new output.old output.new disk.old disk.new) (D.image disk.new) }
     ensures durable { IsTrue (D.is_known disk.old) → IsTrue (D.knows_crashes disk.old) → IsDurable (D.image disk.old) (D.crash_states disk.old)
-        → (script : List ℕ) → S.left input.old ≡ Some script → result ≡ Status.Done → IsDurable (D.image disk.new) (D.crash_states disk.new) }
+        → (asked_of (map string_bytes words.now) ≡ Some Asked.Run → IsKnown (S.left input.old))
+        → result ≡ Status.Done → IsDurable (D.image disk.new) (D.crash_states disk.new) }
     // A disk that isn't empty isn't written for a new store, and one is never touched for a store in memory.
     ensures untouched { (asked : Asked) → asked_of (map string_bytes words.now) ≡ Some asked → IsTrue (makes_store asked) → 0 < D.size_of disk.old
         → D.quiet disk.old disk.new }

@@ -10,7 +10,7 @@ use Rattle.spb_defs.specs.Words.{asked_of}
 use Rattle.spb_top.specs.Outside.{outside_of, unread_outside}
 use Rattle.spb_top.specs.Files.{IsKnownBefore, MayLeave}
 use Rattle.spb_top.specs.Turns.{StandsForOne, states_after}
-use Rattle.spb_top.proofs.AtOnce.{acknowledged_at_once, completes_as, completes_in_memory, completes_unread, same_words}
+use Rattle.spb_top.proofs.AtOnce.{acknowledged_at_once, completes_as, completes_in_memory, completes_unread, known_bytes, same_words}
 use Rattle.spb_top.proofs.top.run.Goals as goal
 
 -- ---- memory runs out in reading the words
@@ -65,6 +65,15 @@ returns-in-Some-Run-clause-complete g c =
     c.serve_file.new.disk in
     completes_as (asked_of (map string_bytes c.args.words.now)) Run c.serve_file.result o asks
     (c.causes_complete.ensures Run c.serve_file.result o c.serve_file.ensures.cause)
+
+pub returns-in-Some-Run-clause-durable : goal.returns-in-Some-Run-clause-durable
+returns-in-Some-Run-clause-durable g c = λ known knows durable read done.
+    let exact = c.in-Ok.ensures.exact in
+    let is = c.in-Some-Run.is in
+    let inner = c.in-Some-Run.field-0-is in
+    let asks : asked_of (map string_bytes c.args.words.now) ≡ Some Run = sym exact ∙ is ∙ search (rules, inner) in
+    let input = known_bytes (g.S.Source.left c.args.input.now) (read asks) in
+    c.serve_file.ensures.durable known knows durable input.0 input.1 done
 
 -- ---- a store that is checked
 
