@@ -29,7 +29,7 @@ use Rattle.spb_top.specs.declared.status.Status.TheVariants.{Done, Usage, NoMemo
 use Rattle.spb_top.specs.Counted.{CountsObjects}
 use Rattle.spb_top.specs.Outside.{known_image, outside_of}
 use Rattle.spb_top.specs.Written.{WritesReplies, LeavesInput}
-use Rattle.spb_top.specs.Causes.{IsKnown, IsKnownStore, IsStore, CauseOf, refused_by}
+use Rattle.spb_top.specs.Causes.{IsKnown, IsKnownStore, HoldsStore, CauseOf, refused_by}
 use Rattle.spb_top.specs.Files.{IsKnownBefore, MayLeave}
 use Rattle.spb_top.specs.Turns.{AnsweredLines, IsUndamaged, StandsForOne, states_after, states_through}
 use Rattle.spb_top.specs.Opened.{IsServed, StandsFor}
@@ -150,7 +150,7 @@ module _ {S K D : Type 0} (G : source.Ghosts S) (H : sink.Ghosts K) (E : disk.Gh
         served.durable first (now, stands) (tells_too tells) script left done
 
     -- the image stood for a state, if it is known
-    was_store : IsStore (known_image E.is_known E.image old)
+    was_store : HoldsStore (known_image E.is_known E.image old)
     was_store = if_known E.is_known E.image old (λ image. (s : State) × Stands image s) (λ known.
         let (first, stands) = served.stands (known_too E old opening begun known) in
         (first, ((begun.started known).alike first).1 stands))

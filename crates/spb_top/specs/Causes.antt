@@ -80,8 +80,8 @@ IsKnownStore None s = ⊥
 IsKnownStore (Some image) s = Stands image s
 
 -- the image is that of a store, if it is known
-abbrev pub IsStore : Option (List ℕ) → Type 0
-IsStore image = IfSome image (λ bytes. (s : State) × Stands bytes s)
+abbrev pub HoldsStore : Option (List ℕ) → Type 0
+HoldsStore image = IfSome image (λ bytes. (s : State) × Stands bytes s)
 
 -- the keys of a store that is made have at most 64 bits
 abbrev pub FitsKey : Asked → Type 0
@@ -92,8 +92,8 @@ FitsKey _ = Unit {0}
 abbrev pub MayWork : Asked → Outside → Type 0
 MayWork (Mem setup) o = Unit {0}
 MayWork (Make curve pivots cap space) o = (pivots * bits space ≤ 64) × (o.size ≡ 0)
-MayWork Run o = IsStore o.image
-MayWork Check o = IsStore o.image
+MayWork Run o = HoldsStore o.image
+MayWork Check o = HoldsStore o.image
 MayWork (Trial seed count) o = o.size ≡ 0
 
 -- whether the input is read

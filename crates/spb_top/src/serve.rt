@@ -1,5 +1,5 @@
 //! Replies to lines, one by one, whatever kind of session there is.
-ghost use Rattle.std.specs.Prelude.{◌≡◌, ◌≢◌, ◌∷◌, ◌++◌, ◌≤◌, ℕ, List, [], false, Some, IsTrue, IfOk, OnOk};
+ghost use Rattle.std.specs.Prelude.{◌≡◌, ◌∷◌, ◌++◌, ℕ, List, [], false, Some, IsTrue, IfOk, OnOk};
 ghost use Rattle.spb_edge.specs.Reader.{unread, rest, taken, has_ended};
 ghost use Rattle.spb_edge.specs.Lines.{lines_of};
 ghost use Rattle.spb_edge.specs.declared.reader.Line.{Line};

@@ -21,7 +21,7 @@ use metric_laws::Metric;
 use metrics_builtin::{Hamming, L1, LInf, SetDiff, Space};
 use session::FileSession;
 use spb_defs::LINE_LIMIT;
-use spb_edge::{Disk, LineReader, Sink, Source};
+use spb_edge::{Disk, Sink, Source};
 use std::alloc::Global;
 use store_core::{OpenError, Opening};
 

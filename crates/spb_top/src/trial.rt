@@ -1,5 +1,5 @@
 //! Trials: a new store, a generated script on it, and a line of what it was answered.
-ghost use Rattle.std.specs.Prelude.{◌≡◌, ◌⊎◌, ◌*◌, ◌<◌, ◌≤◌, ℕ, List, IsTrue, true, false, IfOk, OnOk, MatchResult};
+ghost use Rattle.std.specs.Prelude.{◌≡◌, ◌⊎◌, ◌*◌, ◌<◌, ◌≤◌, IsTrue, true, false, IfOk, OnOk, MatchResult};
 ghost use Rattle.spb_edge.specs.Calls.{StaysKnown};
 ghost use Rattle.spb_edge.specs.Crash.{IsDurable, CrashesLeaveOnly};
 ghost use Rattle.metrics_builtin.specs.Space.{bits};

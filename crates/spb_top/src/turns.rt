@@ -9,7 +9,7 @@ use std::alloc::Global;
 
 /// A session, which takes one line after the other and goes on from state to state.
 pub(crate) trait Turns {
-    ghost use Rattle.std.specs.Prelude.{◌≡◌, ℕ, ◌∷◌, ◌++◌, ◌^◌, ◌<◌, ◌≤◌, List, [], Contains, Bool, false, IfOk, OnOk};
+    ghost use Rattle.std.specs.Prelude.{◌≡◌, ℕ, ◌∷◌, ◌++◌, ◌^◌, ◌<◌, List, [], Contains, Bool, false, IfOk, OnOk};
     ghost use Rattle.spb_edge.specs.declared.reader.Line.{Line};
     ghost use Rattle.metrics_builtin.specs.declared.Space.{Space};
     ghost use Rattle.spb_defs.specs.MetricOf.{IsMetricOf};
