@@ -50,7 +50,7 @@ both_among a b states has_a has_b t has =
 pub one_among : (a : State) (states : List State) → Contains states a → (t : State) → Contains (a ∷ []) t → Contains states t
 one_among a states has_a t has = subst (Contains states) (only_one a t has) has_a
 
-first_through : (s : State) (lines : List Line) → Contains (states_through s lines) s
+pub first_through : (s : State) (lines : List Line) → Contains (states_through s lines) s
 first_through s [] = (0, omega arith, refl)
 first_through s (line ∷ lines) = (0, omega arith, refl)
 

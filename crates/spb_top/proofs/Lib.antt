@@ -3,6 +3,7 @@ pub mod AtOnce
 pub mod CheckedFiles
 pub mod Completing
 pub mod Counting
+pub mod Faults
 pub mod KnownImages
 pub mod NewStores
 pub mod OpenedFiles

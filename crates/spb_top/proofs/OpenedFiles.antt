@@ -3,7 +3,6 @@ use Rattle.std.proofs.Common.{ℕ, ◌≤◌, IsTrue, List, Ok, Err, sym, ◌∙
 use Rattle.spb_edge.specs.declared.disk.Disk as disk
 use Rattle.spb_edge.specs.Calls.{StaysKnown}
 use Rattle.spb_edge.specs.Crash.{IsDurable, CrashesLeaveOnly}
-use Rattle.spb_edge.specs.Fault.{HasRisen}
 use Rattle.spb_edge.specs.Quiet.{IsQuiet, calmly}
 use Rattle.store_check.specs.Stands.{Stands}
 use Rattle.store_core.specs.declared.errors.OpenError.{OpenError}
@@ -15,10 +14,7 @@ use Rattle.store_core.proofs.BreaksAlike.{breaks_alike}
 use Rattle.store_core.proofs.StartedImages.{is_opened}
 use Rattle.spb_top.specs.Opened.{IsRead, IsSettled, IsTurnedAway, IsCounted}
 use Rattle.spb_top.specs.Counted.{IsFound, CountsObjects}
-
--- a count that rose later has risen
-pub risen_later : (before between now : ℕ) → before ≤ between → HasRisen between now → HasRisen before now
-risen_later before between now no_less rose = omega arith
+use Rattle.spb_top.proofs.Faults.{risen_later}
 
 module _ {D : Type 0} (E : disk.Ghosts D) where
   abbrev pub Quiet : D → D → Type 0

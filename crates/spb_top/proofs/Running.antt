@@ -12,7 +12,6 @@ use Rattle.spb_edge.specs.declared.reader.EdgeError.TheVariants as edge
 use Rattle.spb_edge.specs.declared.reader.LineReader.{LineReader}
 use Rattle.spb_edge.specs.declared.source.Source as source
 use Rattle.spb_edge.specs.declared.sink.Sink as sink
-use Rattle.spb_edge.specs.Fault.{HasRisen}
 use Rattle.spb_edge.specs.Known.{with_prefix, with_prefix-nil, with_suffix, with_suffix-append, with_suffix-nil}
 use Rattle.spb_edge.specs.Lines.{HasNoLf, lines_of, ended_lines}
 use Rattle.spb_edge.specs.LineLaws.{ended_lines-ended, ended_lines-none}
@@ -30,6 +29,7 @@ use Rattle.spb_top.specs.Outside.{Traffic, reader_traffic}
 use Rattle.spb_top.specs.Causes.{HasServingCause, stopped_by}
 use Rattle.spb_top.specs.Turns.{states_through, AnsweredLines, states_after, StopsTurn}
 use Rattle.spb_top.proofs.Answered.{answer, play_lines-append, play_lines-push, state_after_lines-push, one_among, both_among, through_more, through_push, after_front, after_next, after_part}
+use Rattle.spb_top.proofs.Faults.{risen_later}
 
 -- whatever follows the bytes that went, the lines that an LF ends begin with these: the bytes are whole lines
 abbrev pub AreWhole : List ℕ → List Line → Type 0
@@ -336,9 +336,6 @@ IfSome-from : {A : Type 0} {P : A → Type 0} (o : Option A) → ((x : A) → o 
 IfSome-from None h = tt
 IfSome-from (Some x) h = h x refl
 
-HasRisen-later : (before between now : ℕ) → before ≤ between → HasRisen between now → HasRisen before now
-HasRisen-later before between now no_less rose = omega arith
-
 nothing_unread : (unread : List ℕ) → length unread ≡ 0 → unread ≡ []
 nothing_unread [] none = refl
 nothing_unread (b ∷ unread) none = absurd (omega (arith, none))
@@ -364,7 +361,7 @@ stopped_cause : (e : EdgeError) (t : Traffic) (between total : ℕ) (unread : Li
     → reads.HasLineCause (Err e) between t.source.now total (length unread)
     → ((script : List ℕ) → t.input ≡ Some script → (left : List ℕ) × (total + length left ≡ length unread + length script) × (length unread ≤ length left))
     → HasServingCause (stopped_by e) t
-stopped_cause edge.ReadFault t between total unread grew cause count = HasRisen-later t.source.before between t.source.now grew cause.1
+stopped_cause edge.ReadFault t between total unread grew cause count = risen_later t.source.before between t.source.now grew cause.1
 stopped_cause edge.InputLimit t between total unread grew cause count =
     IfSome-from t.input (λ script is. let c = count script is in omega (arith, cause.1, cause.2, c.1, c.2))
 stopped_cause edge.Memory t between total unread grew cause count = tt

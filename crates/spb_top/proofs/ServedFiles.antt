@@ -33,8 +33,9 @@ use Rattle.spb_top.specs.Causes.{IsKnown, IsKnownStore, HoldsStore, CauseOf, ref
 use Rattle.spb_top.specs.Files.{IsKnownBefore, MayLeave}
 use Rattle.spb_top.specs.Turns.{AnsweredLines, IsUndamaged, StandsForOne, states_after, states_through}
 use Rattle.spb_top.specs.Opened.{IsServed, StandsFor}
+use Rattle.spb_top.proofs.Faults.{risen_later}
 use Rattle.spb_top.proofs.KnownImages.{if_known, known_store, known_whole}
-use Rattle.spb_top.proofs.OpenedFiles.{Leaves, IsBegun, known_too, risen_later}
+use Rattle.spb_top.proofs.OpenedFiles.{Leaves, IsBegun, known_too}
 
 -- ---- states
 

@@ -26,11 +26,9 @@ use Rattle.spb_top.specs.Causes.{HasServingCause}
 use Rattle.spb_top.specs.Turns.{StandsForOne, states_through}
 use Rattle.spb_top.specs.FileTurns.{HoldsFile, LeavesFile}
 use Rattle.spb_top.specs.Opened.{IsSettled, StandsFor}
-use Rattle.spb_top.proofs.OpenedFiles.{risen_later, Quiet, Leaves}
-
-pub through_first : (s : State) (lines : List Line) → Contains (states_through s lines) s
-through_first s [] = (0, omega arith, refl)
-through_first s (line ∷ lines) = (0, omega arith, refl)
+use Rattle.spb_top.proofs.Answered.{first_through}
+use Rattle.spb_top.proofs.Faults.{risen_later}
+use Rattle.spb_top.proofs.OpenedFiles.{Quiet, Leaves}
 
 -- a cause is one since any earlier count of the disk's faults
 pub cause_before : {S K : Type 0} (G : source.Ghosts S) (H : sink.Ghosts K) (input input' : S) (output output' : K) (before between now : ℕ) → before ≤ between
@@ -89,7 +87,7 @@ module _ {D : Type 0} (E : disk.Ghosts D) (opening : Opening D) where
       leaves only_now settled first (known, stands) tells lines session' left =
           let P = StandsForOne (states_through first lines) in
           let now : (c : List ℕ) → E.crash_states (disk_in opening) c → P c =
-          λ c is. (first, through_first first lines, subst (λ (image : List ℕ). Stands image first) (sym (settled known tells c is)) stands) in
+          λ c is. (first, first_through first lines, subst (λ (image : List ℕ). Stands image first) (sym (settled known tells c is)) stands) in
           joined E.moment E.crash_states_since (disk_in opening) session.store.pages.disk session'.store.pages.disk P
           (calmly E.is_known E.knows_crashes E.size_of E.image E.crash_states E.moment E.crash_states_since (disk_in opening) (disk_in opening)
           session.store.pages.disk P

@@ -27,8 +27,10 @@ use Rattle.spb_top.specs.FileTurns.{HoldsFile, LeavesFile}
 use Rattle.spb_top.specs.Opened.{IsSettled, IsTurnedAway, StandsFor}
 use Rattle.spb_top.specs.Trials.{IsTried, HasTotals, StopsTrial}
 use Rattle.spb_top.specs.Turns.{IsUndamagedStop, StandsForOne, StopsTurn, states_through}
-use Rattle.spb_top.proofs.OpenedFiles.{risen_later, Leaves, IsBegun, known_too}
-use Rattle.spb_top.proofs.ServedStores.{through_first, IsMade, holds, leaves}
+use Rattle.spb_top.proofs.Answered.{first_through}
+use Rattle.spb_top.proofs.Faults.{risen_later}
+use Rattle.spb_top.proofs.OpenedFiles.{Leaves, IsBegun, known_too}
+use Rattle.spb_top.proofs.ServedStores.{IsMade, holds, leaves}
 
 -- why a run of turns ended, with a count of faults that didn't fall before
 stops_later : {A : Type 0} (result : Result A Status) (before between now : ℕ) → before ≤ between → StopsTurn result between now → StopsTurn result before now
@@ -128,7 +130,7 @@ module _ {D : Type 0} (E : disk.Ghosts D) (old : D) (first : State) where
   -- what stands for the state stands for one of those that the lines lead through
   pub stays : (new : D) (lines : List Line) → Leaves E old new (λ c. Stands c first) → Leaves E old new (StandsForOne (states_through first lines))
   stays new lines = weaker E.moment E.crash_states_since old new (λ c. Stands c first) (StandsForOne (states_through first lines))
-      (λ c is. (first, through_first first lines, is))
+      (λ c is. (first, first_through first lines, is))
 
   -- the first half of an opening refuses only what stands for no state
   pub start_stops : (e : OpenError) (new : D) → (IsTrue (E.is_known old) → Refuses e (E.image old)) → CountsRefusal e (E.faults old) (E.faults new)

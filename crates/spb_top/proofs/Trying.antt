@@ -11,7 +11,7 @@ use Rattle.trial_script.specs.declared.totals.Totals.{Totals}
 use Rattle.trial_script.specs.Totals.{replies_of, totals_of, capped}
 use Rattle.spb_top.specs.declared.turns.Turns as turns
 use Rattle.spb_top.specs.Turns.{states_through}
-use Rattle.spb_top.proofs.ServedStores.{through_first}
+use Rattle.spb_top.proofs.Answered.{first_through}
 
 -- what is among some states is among them and one before
 behind : (s t : State) (states : List State) → Contains states t → Contains (s ∷ states) t
@@ -23,7 +23,7 @@ two_through : (s : State) (line : Line) (lines : List Line) (t : State) → Cont
 two_through s line lines t (zero, inside, is) = (0, omega arith, is)
 two_through s line lines t (suc zero, inside, is) =
     let next = next_state s line in
-    subst (Contains (states_through s (line ∷ lines))) is (behind s next (states_through next lines) (through_first next lines))
+    subst (Contains (states_through s (line ∷ lines))) is (behind s next (states_through next lines) (first_through next lines))
 two_through s line lines t (suc (suc k), inside, is) = absurd (omega (arith, inside))
 
 module _ {T : Type 0} (G : turns.Ghosts T) where
@@ -68,7 +68,7 @@ module _ {T : Type 0} (G : turns.Ghosts T) where
     }
       where
         only : (t : State) → Contains (first ∷ []) t → Contains (states_through first lines) t
-        only t (zero, inside, is) = subst (Contains (states_through first lines)) is (through_first first lines)
+        only t (zero, inside, is) = subst (Contains (states_through first lines)) is (first_through first lines)
         only t (suc k, inside, is) = absurd (omega (arith, inside))
 
     module _ (joined : LeavesJoined) (session now new : T) (lines lines' lines'' : List Line) (said : List Reply) (line : Line) (next : lines' ≡ line ∷ lines'') where
