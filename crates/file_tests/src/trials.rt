@@ -1,6 +1,6 @@
 //! Trials, and their scripts answered in memory.
 use crate::plays::{is_so, play, sink};
-use spb_edge::{Bytes, SureDisk};
+use spb_edge::SureDisk;
 use spb_top::Status;
 use std::alloc::{AllocError, Global};
 use std::test::Fail;
