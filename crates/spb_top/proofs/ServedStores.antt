@@ -1,6 +1,5 @@
 -- A store that was made of an opening, and the lines that were answered from it.
-use Rattle.std.proofs.Common.{◌≡◌, ℕ, ◌≤◌, IsTrue, List, [], ◌∷◌, refl, sym, subst, ◌∙◌, arith, Bool, ap}
-use Rattle.std.specs.List.{Contains}
+use Rattle.std.proofs.Common.{◌≡◌, ℕ, ◌≤◌, IsTrue, List, sym, subst, ◌∙◌, Bool, ap}
 use Rattle.spb_edge.specs.declared.source.Source as source
 use Rattle.spb_edge.specs.declared.sink.Sink as sink
 use Rattle.spb_edge.specs.declared.disk.Disk as disk
