@@ -1,4 +1,3 @@
-pub mod ZeroGroups
 pub mod Spelling
 pub mod NodePages
 pub mod Views

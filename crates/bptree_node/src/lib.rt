@@ -12,7 +12,6 @@ mod summary;
 #[cfg(test)]
 mod tests;
 mod writers;
-mod zeros;
 
 pub use boxes::Boxes;
 pub use laws::worked_rows;

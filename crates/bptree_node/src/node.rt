@@ -8,10 +8,9 @@ ghost use Rattle.bptree_node.specs.Nodes as words;
 ghost use Rattle.bptree_node.specs.Nodes.{Leaf, Inner, node_in, leaf_page, inner_page, AreEntries, AreBranches, IsPage};
 
 use crate::layout::{BRANCH_SIZE, ENTRY_SIZE, INNER, LEAF, MOST_BRANCHES, MOST_ENTRIES, ROWS_AT};
-use crate::zeros::is_zero;
 use crate::{Branch, Entry};
 use byteorder::{BigEndian, ByteOrder};
-use page_laws::PAGE_SIZE;
+use page_laws::{PAGE_SIZE, are_zero};
 use std::marker::Model;
 use thiserror::Error;
 
@@ -78,8 +77,8 @@ fn has_rows(page: &[u8; PAGE_SIZE], kind: u8, least: usize, most: usize, size: u
     page[0] == kind
         && least <= count
         && count <= most
-        && is_zero(&page[2..ROWS_AT])
-        && is_zero(&page[ROWS_AT + size * count..])
+        && are_zero(&page[2..ROWS_AT])
+        && are_zero(&page[ROWS_AT + size * count..])
 }
 
 impl NodeView<'_> {

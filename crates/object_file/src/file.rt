@@ -5,7 +5,7 @@ ghost use Rattle.page_laws.specs.Errors.{CountsFault, CountsTreeFault};
 ghost use Rattle.page_laws.specs.Pages.{risen, AreFree, JoinsAtMost};
 ghost use Rattle.object_file.specs.declared.slots.TheConstants.{OBJECT_LIMIT, COLLECTIONS};
 ghost use Rattle.object_file.specs.Slots.{Slot, Free, Holds};
-ghost use Rattle.object_file.specs.Calls.{PagesContinue};
+ghost use Rattle.page_laws.specs.Calls.{PagesContinue};
 ghost use Rattle.object_file.specs.ObjectFile as words;
 ghost use Rattle.object_file.specs.ObjectFile.{is_slot, slot_at, HasSlots, SetsSlot, Gives, NamesSlot};
 

@@ -1,5 +1,6 @@
 pub mod Rules
 pub mod Errors
 pub mod Pages
+pub mod Calls
 pub mod FreeLaws
 pub mod PlainPages

@@ -9,7 +9,7 @@ ghost use Rattle.free_list.specs.FreeNumbers.{is_within};
 ghost use Rattle.redo_journal.specs.declared.layout.TheConstants.{FIRST_HOME};
 ghost use Rattle.object_file.specs.declared.file.TheConstants.{SLOTS_PER_PAGE};
 ghost use Rattle.object_file.specs.declared.slots.TheConstants.{COLLECTIONS};
-ghost use Rattle.object_file.specs.Calls.{PagesContinue};
+ghost use Rattle.page_laws.specs.Calls.{PagesContinue};
 ghost use Rattle.object_file.specs.ObjectFile.{slot_page as page_of, HasSlots, slot_at};
 ghost use Rattle.row_list.specs.declared.sorting.SlottedRow.{SlottedRow};
 ghost use Rattle.store_check.specs.declared.layout.TheConstants.{CAP_LIMIT};

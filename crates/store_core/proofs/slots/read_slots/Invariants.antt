@@ -1,7 +1,7 @@
 use Rattle.std.proofs.Common.{◌≡◌, ◌≤◌, IsTrue}
 use Rattle.metrics_builtin.specs.declared.Space.{Space}
 use Rattle.spb_defs.specs.MetricOf.{IsMetricOf}
-use Rattle.object_file.specs.Calls.{PagesContinue}
+use Rattle.page_laws.specs.Calls.{PagesContinue}
 use Rattle.store_core.specs.SlotContents.{HasTables, HoldsTables, slots_before}
 use Rattle.store_core.proofs.slots.read_slots.Given as goal
 

@@ -1,7 +1,7 @@
 use Rattle.std.proofs.Common.{◌==◌, ◌&&◌, [], sym, ◌∙◌}
 use Rattle.std.proofs.lemmas.List.Folds.{list_all_more}
-use Rattle.bptree_node.proofs.ZeroGroups.{is_zero_group, no_bits}
-use Rattle.bptree_node.proofs.zeros.are_zero_groups.Goals as goal
+use Rattle.page_laws.proofs.ZeroGroups.{is_zero_group, no_bits}
+use Rattle.page_laws.proofs.bytes.are_zero_groups.Goals as goal
 
 pub loop-group-preserved : goal.loop-group-preserved
 loop-group-preserved c =
