@@ -121,7 +121,7 @@ starts-behind key id [] rising starts = tt
 starts-behind key id (e ∷ es) rising starts = (starts, behind-further key id e.key e.id es starts rising.0)
 
 -- what is before the first of rising entries goes before what doesn't go before that
-before-first : (key id first_key first_id : ℕ) (xs ys : List Entry) → IsRising (xs ++ ys) → HasFirst first_key first_id ys
+pub before-first : (key id first_key first_id : ℕ) (xs ys : List Entry) → IsRising (xs ++ ys) → HasFirst first_key first_id ys
     → goes_before key id first_key first_id ≡ false → AreBefore key id xs
 before-first key id first_key first_id xs [] rising first late = absurd first
 before-first key id first_key first_id [] (y ∷ ys) rising first late = tt

@@ -15,11 +15,11 @@ joined_options joined (Some a) (Some b) = Some (joined a b)
 joined_options joined (Some a) None = None
 joined_options joined None b = None
 
--- the summary of entries: those of the single ones, joined
-abbrev pub summary_of : {S : Type 0} → (S → S → S) → (Entry → Option S) → List Entry → Option S
-summary_of joined entry_box [] = None
-summary_of joined entry_box (e ∷ []) = entry_box e
-summary_of joined entry_box (e ∷ f ∷ es) = joined_options joined (entry_box e) (summary_of joined entry_box (f ∷ es))
+-- the summary of entries, or of branches: those of the single ones, joined
+abbrev pub summary_of : {A S : Type 0} → (S → S → S) → (A → Option S) → List A → Option S
+summary_of joined box [] = None
+summary_of joined box (e ∷ []) = box e
+summary_of joined box (e ∷ f ∷ es) = joined_options joined (box e) (summary_of joined box (f ∷ es))
 
 -- the two keys are those of the summary of the entries
 pub record HasCorners {S : Type 0} (joined : S → S → S) (entry_box : Entry → Option S) (keys : S → ℕ × ℕ) (entries : List Entry) (low high : ℕ) : Type 0 where

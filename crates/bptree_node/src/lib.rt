@@ -19,7 +19,7 @@ pub use layout::{
     BRANCH_SIZE, ENTRY_SIZE, HEIGHT_LIMIT, LEAST_BRANCHES, LEAST_ENTRIES, MOST_BRANCHES,
     MOST_ENTRIES, ROWS_AT,
 };
-pub use node::{NodeFault, NodeView, nodes_are_their_rows, read_node};
+pub use node::{NodeFault, NodeView, leaf_entry, nodes_are_their_rows, read_node};
 pub use region::Region;
 pub use rows::{Branch, Entry};
 pub use summary::{NoBox, Summary};

@@ -6,6 +6,7 @@ ghost use Rattle.bptree_node.specs.declared.rows.Entry.{Entry};
 ghost use Rattle.bptree_node.specs.declared.rows.Branch.{Branch};
 ghost use Rattle.bptree_node.specs.Nodes as words;
 ghost use Rattle.bptree_node.specs.Nodes.{Leaf, Inner, node_in, leaf_page, inner_page, AreEntries, AreBranches, IsPage};
+ghost use Rattle.bptree_node.specs.Trees.{node_entries};
 
 use crate::layout::{BRANCH_SIZE, ENTRY_SIZE, INNER, LEAF, MOST_BRANCHES, MOST_ENTRIES, ROWS_AT};
 use crate::{Branch, Entry};
@@ -116,6 +117,14 @@ impl NodeView<'_> {
         let page = self.page;
         branch_from(page, ROWS_AT + BRANCH_SIZE * i)
     }
+}
+
+/// The entry at a place of a page that was found to be a leaf. It isn't tested again.
+pub fn leaf_entry(page: &[u8; PAGE_SIZE], i: usize) -> Entry
+    requires { i < length (node_entries (node_in page.now)) }
+    ensures { result ≡ slice_index_or (node_entries (node_in page.now)) i result }
+{
+    entry_from(page, ROWS_AT + ENTRY_SIZE * i)
 }
 
 /// The entry whose bytes begin at a place.

@@ -1,7 +1,7 @@
 //! The rows of nodes.
 
 /// A row of a leaf: an object's key, its id, and the slot that it is in.
-#[derive(Clone, Copy, Debug, PartialEq, Eq)]
+#[derive(Clone, Copy, Debug, Default, PartialEq, Eq)]
 pub struct Entry {
     /// The key, by which entries are in order.
     pub key: u64,
@@ -13,7 +13,7 @@ pub struct Entry {
 
 /// A row of an inner node: the child, the key and the id of the first entry under it, and the two
 /// corners of the box around all entries under it, as keys.
-#[derive(Clone, Copy, Debug, PartialEq, Eq)]
+#[derive(Clone, Copy, Debug, Default, PartialEq, Eq)]
 pub struct Branch {
     /// The key of the first entry under the child.
     pub key: u64,

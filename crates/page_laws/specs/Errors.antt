@@ -23,3 +23,13 @@ CountsTreeFault (Ok _) before now = before ≤ now
 CountsTreeFault (Err tree.Fault) before now = (before ≤ now) × HasRisen before now
 CountsTreeFault (Err (tree.Damaged page rule)) before now = before ≤ now
 CountsTreeFault (Err tree.Memory) before now = before ≤ now
+
+-- an error says nothing to be damaged
+abbrev pub TellsNoDamage : TreeError → Type 0
+TellsNoDamage (tree.Damaged page rule) = ⊥
+TellsNoDamage tree.Fault = Unit {0}
+TellsNoDamage tree.Memory = Unit {0}
+
+abbrev pub IsNotDamaged : {A : Type 0} → Result A TreeError → Type 0
+IsNotDamaged (Ok _) = Unit {0}
+IsNotDamaged (Err why) = TellsNoDamage why

@@ -1,5 +1,5 @@
 -- The pages of a change, the free pages, and how often pages were asked for.
-use Rattle.std.proofs.Common.{◌≡◌, ℕ, ◌+◌, ◌-◌, ◌^◌, ◌<◌, ◌≤◌, ◌==◌, Bool, not, ◌&&◌, List, length, arith}
+use Rattle.std.proofs.Common.{◌≡◌, ℕ, zero, suc, ◌+◌, ◌-◌, ◌^◌, ◌<◌, ◌≤◌, ◌==◌, Bool, not, ◌&&◌, List, length, ap, ◌∙◌, arith}
 use Rattle.std.specs.Prelude.{min, IsTrue, count_by}
 use Rattle.std.specs.List.{AllByRecursion, list_all, list_any, IsDistinct}
 use Rattle.std.proofs.lemmas.List.Sums.{count_by-le-length}
@@ -8,6 +8,19 @@ use Rattle.page_laws.specs.declared.pages.TheConstants.{CHANGE_LIMIT}
 -- a count of 64 bits with this many more, which stays at its last value
 abbrev pub risen : ℕ → ℕ → ℕ
 risen n more = min (n + more) (2 ^ 64 - 1)
+
+-- such a count after so many more: after none it is the same, whatever it is
+abbrev pub count_after : ℕ → ℕ → ℕ
+count_after n zero = n
+count_after n (suc more) = risen n (suc more)
+
+pub count_after-add : (n a b : ℕ) → count_after (count_after n a) b ≡ count_after n (a + b)
+count_after-add n zero b = ap (count_after n) (omega arith)
+count_after-add n (suc a) zero = let same : suc a ≡ suc a + zero = omega arith in ap (count_after n) same
+count_after-add n (suc a) (suc b) =
+    let total : suc (suc a + b) ≡ suc a + suc b = omega arith in
+    let most : risen (risen n (suc a)) (suc b) ≡ risen n (suc (suc a + b)) = omega arith in
+    most ∙ ap (count_after n) total
 
 -- whether all of the bytes are zero
 unfoldable pub are_zero : List ℕ → Bool

@@ -1,0 +1,14 @@
+pub mod Summing
+pub mod Counts
+pub mod PageSteps
+pub mod Lists
+pub mod Under
+pub mod Placing
+pub mod Growing
+pub mod Storing
+pub mod LeafSteps
+pub mod InnerSteps
+pub mod Rooted
+pub mod RootSteps
+pub mod Inserted
+pub mod TestTrees

@@ -1,0 +1,4 @@
+use Rattle.bptree_insert.proofs.tests.+add_ids.Given as goal
+
+abbrev pub decreases-add_ids : goal.decreases-add_ids
+decreases-add_ids l = l.level

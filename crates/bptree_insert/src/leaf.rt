@@ -1,0 +1,169 @@
+//! Leaves that an entry is put into.
+ghost use Rattle.std.specs.Prelude.{◌≡◌, ℕ, ◌+◌, ◌<◌, ◌≤◌, true, false, List, IsTrue, IsSome, Some, None, IfOk, MatchOption, MatchResult, length, slice_index_or};
+ghost use Rattle.std.specs.List.{AllByRecursion};
+ghost use Rattle.page_laws.specs.Errors.{CountsTreeFault, IsNotDamaged};
+ghost use Rattle.page_laws.specs.Pages.{is_live};
+ghost use Rattle.page_laws.specs.declared.errors.TreeError.TheVariants as tree;
+ghost use Rattle.page_laws.specs.declared.rule.Rule.TheVariants as rule;
+ghost use Rattle.page_laws.specs.declared.pages.TheConstants.{CHANGE_LIMIT};
+ghost use Rattle.bptree_node.specs.declared.layout.TheConstants.{MOST_ENTRIES};
+ghost use Rattle.bptree_node.specs.declared.rows.Entry.{Entry};
+ghost use Rattle.bptree_node.specs.Nodes.{Leaf, node_in};
+ghost use Rattle.bptree_node.specs.Summaries.{summary_of, HasCorners};
+ghost use Rattle.bptree_insert.specs.Rows.{entry_before};
+ghost use Rattle.bptree_insert.specs.NodesAt.{CanTake};
+ghost use Rattle.bptree_insert.specs.Steps.{PagesGrow, IsWritten, NamesTested, AreMade, IsLeafPart, StoresLeaf, Grows};
+
+use crate::grown::{Boxed, Grown, Part, damaged, goes_before};
+use arrayvec::ArrayVec;
+use bptree_node::{Boxes, Entry, LEAST_ENTRIES, MOST_ENTRIES, Summary, read_node, write_leaf};
+use page_laws::{PAGE_SIZE, Pages, Rule, TreeError};
+
+/// The entries of a leaf, with room for one more than a leaf may have.
+type Entries = ArrayVec<Entry, 31>;
+
+/// Inserts an entry into the leaf that page `n` is.
+pub(crate) fn insert_in_leaf<P: Pages, S: Summary, F: Boxes<S>>(
+    pages: &mut P,
+    n: u32,
+    page: &[u8; PAGE_SIZE],
+    e: &Boxed<S>,
+    boxes: &F,
+) -> Result<Grown<S>, TreeError>
+    requires live { IsTrue (is_live (P.in_pool pages.old) (P.free pages.old) n) }
+    requires open { IsTrue (P.is_open pages.old) }
+    requires free { 1 ≤ length (P.free pages.old) }
+    requires put { length (P.put_pages pages.old) + 2 ≤ CHANGE_LIMIT }
+    requires page { IsTrue (P.is_known pages.old) → page.now ≡ P.page_at pages.old n }
+    requires tree { IsTrue (P.is_known pages.old)
+        → CanTake (HasCorners S.joined (F.entry_box boxes.now) (F.keys_of boxes.now)) (F.entry_box boxes.now) (P.in_pool pages.old) e.now.entry (P.page_at pages.old) (P.free pages.old) 0 n }
+    requires summary { F.entry_box boxes.now e.now.entry ≡ Some e.now.summary }
+    ensures grows { IsTrue (P.is_known pages.old)
+        → Grows S.joined (F.entry_box boxes.now) (F.keys_of boxes.now) e.now.entry (P.page_at pages.old) (P.page_at pages.new) (P.free pages.old) (P.free pages.new) 0 n result }
+    ensures made { IfOk result (AreMade (F.is_made boxes.now)) }
+    ensures pages { PagesGrow P.is_known P.has P.in_pool P.free P.is_open P.put_pages P.calm 1 2 pages.old pages.new }
+    ensures sound { IsTrue (P.is_known pages.old) → IsNotDamaged result }
+    ensures names { NamesTested result }
+    ensures fault { CountsTreeFault result (P.faults pages.old) (P.faults pages.new) }
+{
+    let mut entries = entries_of(page, n)?;
+    let at = place_for(&entries, &e.entry);
+    entries.insert(at, e.entry);
+    store_leaf(pages, n, &entries, boxes)
+}
+
+/// The entries of the leaf that page `n` is.
+fn entries_of(page: &[u8; PAGE_SIZE], n: u32) -> Result<Entries, TreeError>
+    ensures leaf { MatchResult result (λ entries. node_in page.now ≡ Some (Leaf entries.items))
+        (λ e. (e ≡ tree.Damaged n rule.Node) × ((entries : List Entry) → node_in page.now ≡ Some (Leaf entries) → ⊥)) }
+    ensures count { IfOk result (λ entries. (1 ≤ length entries.items) × (length entries.items ≤ MOST_ENTRIES)) }
+{
+    let node = match read_node(page) {
+        Ok(node) => node,
+        Err(_) => return Err(damaged(n, Rule::Node)),
+    };
+    if !node.is_leaf() {
+        return Err(damaged(n, Rule::Node));
+    }
+    let mut entries = ArrayVec::new();
+    for i in 0..node.count() {
+        entries.push(node.entry(i));
+    }
+    Ok(entries)
+}
+
+/// Where an entry's place is: behind all that go before it.
+fn place_for(entries: &[Entry], e: &Entry) -> usize
+    ensures place { result ≤ length entries.now }
+    ensures before { (k : ℕ) (d : Entry) → k < result → entry_before e.now (slice_index_or entries.now k d) ≡ false }
+    ensures after { (d : Entry) → result < length entries.now → entry_before e.now (slice_index_or entries.now result d) ≡ true }
+{
+    entries
+        .iter()
+        .position(|other| goes_before(e.key, e.id, other.key, other.id))
+        .unwrap_or(entries.len())
+}
+
+/// Writes the leaf of 1 to 31 entries to page `n`. Of 31 the last 16 go to a page that is taken.
+fn store_leaf<P: Pages, S: Summary, F: Boxes<S>>(
+    pages: &mut P,
+    n: u32,
+    entries: &[Entry],
+    boxes: &F,
+) -> Result<Grown<S>, TreeError>
+    requires live { IsTrue (is_live (P.in_pool pages.old) (P.free pages.old) n) }
+    requires open { IsTrue (P.is_open pages.old) }
+    requires free { 1 ≤ length (P.free pages.old) }
+    requires put { length (P.put_pages pages.old) + 2 ≤ CHANGE_LIMIT }
+    requires some { 1 ≤ length entries.now }
+    requires few { length entries.now ≤ MOST_ENTRIES + 1 }
+    ensures stores { StoresLeaf S.joined (F.entry_box boxes.now) n entries.now (P.page_at pages.old) (P.page_at pages.new) (P.free pages.old) (P.free pages.new) result }
+    ensures made { IfOk result (AreMade (F.is_made boxes.now)) }
+    ensures pages { PagesGrow P.is_known P.has P.in_pool P.free P.is_open P.put_pages P.calm 1 2 pages.old pages.new }
+    ensures sound { AllByRecursion (λ (f : Entry). IsSome (F.entry_box boxes.now f)) entries.now → IsNotDamaged result }
+    ensures names { NamesTested result }
+    ensures fault { CountsTreeFault result (P.faults pages.old) (P.faults pages.new) }
+{
+    if entries.len() <= MOST_ENTRIES {
+        put_leaf(pages, n, entries);
+        return Ok(Grown::Whole);
+    }
+    let (low, high) = entries.split_at(LEAST_ENTRIES);
+    let Some(left) = leaf_part(low, n, boxes) else {
+        return Err(damaged(n, Rule::Key));
+    };
+    let Some(mut right) = leaf_part(high, n, boxes) else {
+        return Err(damaged(n, Rule::Key));
+    };
+    right.page = pages.take_page();
+    put_leaf(pages, n, low);
+    put_leaf(pages, right.page, high);
+    Ok(Grown::Split(left, right))
+}
+
+/// Makes page `n` the leaf of these entries, 1 to 30 of them.
+pub(crate) fn put_leaf<P: Pages>(pages: &mut P, n: u32, entries: &[Entry])
+    requires open { IsTrue (P.is_open pages.old) }
+    requires pool { IsTrue (P.in_pool pages.old n) }
+    requires put { length (P.put_pages pages.old) < CHANGE_LIMIT }
+    requires some { 1 ≤ length entries.now }
+    requires few { length entries.now ≤ MOST_ENTRIES }
+    ensures written { IsWritten n (Leaf entries.now) (P.page_at pages.old) (P.page_at pages.new) }
+    ensures free { P.free pages.new ≡ P.free pages.old }
+    ensures pages { PagesGrow P.is_known P.has P.in_pool P.free P.is_open P.put_pages P.calm 0 1 pages.old pages.new }
+    ensures faults { P.faults pages.new ≡ P.faults pages.old }
+{
+    let mut page = [0; PAGE_SIZE];
+    write_leaf(entries, &mut page);
+    pages.put(n, &page);
+}
+
+/// What a branch is made from for the leaf of these entries on a page, or None if one of them has a
+/// key that is none of the tree.
+fn leaf_part<S: Summary, F: Boxes<S>>(entries: &[Entry], page: u32, boxes: &F) -> Option<Part<S>>
+    requires { 1 ≤ length entries.now }
+    ensures part { MatchOption result (summary_of S.joined (F.entry_box boxes.now) entries.now ≡ None) (IsLeafPart S.joined (F.entry_box boxes.now) page entries.now) }
+    ensures made { MatchOption result Unit (λ part. F.is_made boxes.now part.summary) }
+{
+    let first = entries[0];
+    let summary = summary_of_entries(entries, boxes)?;
+    Some(Part {
+        key: first.key,
+        id: first.id,
+        page,
+        summary,
+    })
+}
+
+/// The summary of one or more entries, or None if one of them has a key that is none of the tree.
+fn summary_of_entries<S: Summary, F: Boxes<S>>(entries: &[Entry], boxes: &F) -> Option<S>
+    requires { 1 ≤ length entries.now }
+    ensures is { result ≡ summary_of S.joined (F.entry_box boxes.now) entries.now }
+    ensures made { MatchOption result Unit (F.is_made boxes.now) }
+{
+    let mut summary = boxes.of_entry(&entries[0])?;
+    for entry in &entries[1..] {
+        summary = summary.join(&boxes.of_entry(entry)?);
+    }
+    Some(summary)
+}

@@ -1,0 +1,14 @@
+pub mod Lists
+pub mod Parts
+pub mod Reaching
+pub mod Ways
+pub mod Staying
+pub mod Down
+pub mod Opening
+pub mod Walks
+pub mod Visiting
+pub mod Stacks
+pub mod Counts
+pub mod Passing
+pub mod Whole
+pub mod Gathering
