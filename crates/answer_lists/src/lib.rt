@@ -2,8 +2,6 @@
 #![tactic(auto)]
 
 mod lists;
-#[cfg(test)]
-mod tests;
 
 pub use lists::{Pairs, Ranks, arrange, arrange_ids};
 pub use spb_edge::Ids;

@@ -4,8 +4,6 @@
 mod curve_boxes;
 mod id_boxes;
 mod rect;
-#[cfg(test)]
-mod tests;
 
 pub use curve_boxes::{CurveBoxes, corners_are_the_box};
 pub use id_boxes::IdBoxes;

@@ -11,4 +11,3 @@ pub mod InnerSteps
 pub mod Rooted
 pub mod RootSteps
 pub mod Inserted
-pub mod TestTrees

@@ -6,7 +6,5 @@ mod grown;
 mod inner;
 mod inserting;
 mod leaf;
-#[cfg(test)]
-mod tests;
 
 pub use inserting::{ENTRY_LIMIT, insert};

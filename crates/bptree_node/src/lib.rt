@@ -9,8 +9,6 @@ mod node;
 mod region;
 mod rows;
 mod summary;
-#[cfg(test)]
-mod tests;
 mod writers;
 
 pub use boxes::Boxes;

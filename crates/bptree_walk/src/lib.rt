@@ -8,8 +8,6 @@ mod everything;
 mod finding;
 mod leaf;
 mod node;
-#[cfg(test)]
-mod tests;
 mod visit;
 mod walking;
 

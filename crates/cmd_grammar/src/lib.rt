@@ -7,8 +7,6 @@
 mod laws;
 mod lines;
 mod replies;
-#[cfg(test)]
-mod tests;
 
 pub use laws::one_line;
 pub use lines::{LineError, read_command};

@@ -6,8 +6,6 @@
 
 mod curve;
 mod grid;
-#[cfg(test)]
-mod tests;
 mod vect;
 
 pub use curve::{Curve, obeys_laws};

@@ -9,6 +9,8 @@ mod endings;
 #[cfg(test)]
 mod images;
 #[cfg(test)]
+mod openings;
+#[cfg(test)]
 mod plays;
 #[cfg(test)]
 mod recoveries;

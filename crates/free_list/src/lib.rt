@@ -4,6 +4,3 @@
 mod list;
 
 pub use list::FreeList;
-
-#[cfg(test)]
-mod tests;

@@ -15,8 +15,6 @@ ghost use Rattle.hilbert_curve.specs.Tables.{gray, entry, direction};
 mod hilbert;
 mod lanes;
 mod rows;
-#[cfg(test)]
-mod tests;
 mod walk;
 
 pub use hilbert::Hilbert;

@@ -68,6 +68,3 @@ impl Space {
         self.top().ilog2() as u8 + 1
     }
 }
-
-#[cfg(test)]
-mod tests;

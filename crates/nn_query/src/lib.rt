@@ -6,8 +6,6 @@ mod hierarchy;
 mod near;
 mod queue;
 mod rows;
-#[cfg(test)]
-mod tests;
 
 pub use near::near_rows;
 pub use spb_defs::NearAnswer;

@@ -1,2 +1,1 @@
 pub mod SlotBytes
-pub mod Worked

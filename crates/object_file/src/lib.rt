@@ -8,6 +8,3 @@ pub use file::{ObjectFile, SLOTS_PER_PAGE, slot_page};
 pub use slots::{
     COLLECTIONS, OBJECT_LIMIT, SLOT_SIZE, SlotContent, SlotHead, fill_slot, read_slot,
 };
-
-#[cfg(test)]
-mod tests;

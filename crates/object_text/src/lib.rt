@@ -9,8 +9,6 @@ mod laws;
 mod numbers;
 mod objects;
 mod parts;
-#[cfg(test)]
-mod tests;
 mod writing;
 
 pub use laws::one_text;

@@ -260,6 +260,3 @@ impl<'a, D: Disk, M: Metric> Store<'a, D, M> {
         self.setup.pivots.as_slice()
     }
 }
-
-#[cfg(test)]
-mod tests;

@@ -14,6 +14,3 @@ pub use pages::{CHANGE_LIMIT, PAGE_SIZE, Pages};
 pub use plain_pages::PlainPages;
 pub use root::Root;
 pub use rule::Rule;
-
-#[cfg(test)]
-mod tests;

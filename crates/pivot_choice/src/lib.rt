@@ -3,8 +3,6 @@
 
 mod choice;
 mod objects;
-#[cfg(test)]
-mod tests;
 
 pub use choice::choose;
 pub use objects::{Choice, choose_objects};

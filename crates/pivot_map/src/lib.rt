@@ -4,8 +4,6 @@
 mod bounds;
 mod row;
 mod steps;
-#[cfg(test)]
-mod tests;
 mod vectors;
 mod verdict;
 

@@ -3,8 +3,6 @@
 
 mod join;
 mod range;
-#[cfg(test)]
-mod tests;
 
 pub use join::join_rows;
 pub use range::range_rows;

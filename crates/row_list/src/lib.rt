@@ -3,8 +3,6 @@
 
 mod list;
 mod sorting;
-#[cfg(test)]
-mod tests;
 
 pub use list::{Place, RowList};
 pub use pivot_map::Row;

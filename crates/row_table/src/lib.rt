@@ -3,8 +3,6 @@
 
 mod places;
 mod table;
-#[cfg(test)]
-mod tests;
 
 pub use pivot_map::Row;
 pub use table::RowTable;

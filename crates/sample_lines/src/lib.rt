@@ -4,8 +4,6 @@
 mod laws;
 mod rows;
 mod samples;
-#[cfg(test)]
-mod tests;
 
 pub use laws::one_answer;
 pub use rows::worked_lines;

@@ -13,8 +13,6 @@ mod lines;
 mod mem_session;
 mod queries;
 mod store;
-#[cfg(test)]
-mod tests;
 
 pub use endings::Ending;
 pub use file_session::FileSession;

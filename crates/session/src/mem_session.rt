@@ -11,9 +11,6 @@ use spb_edge::{Line, Memory};
 use std::alloc::Global;
 use std::marker::Model;
 
-#[cfg(test)]
-mod tests;
-
 /// A session over a store in memory, with the space's metric.
 #[derive(Drop)]
 pub struct MemSession<M: Metric> {

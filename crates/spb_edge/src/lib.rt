@@ -31,6 +31,3 @@ pub use seq::{Bytes, Ids, Seq};
 pub use sink::{Put, Sink, WriteFault, put_all};
 pub use source::{Source, Take};
 pub use sure_disk::SureDisk;
-
-#[cfg(test)]
-mod tests;

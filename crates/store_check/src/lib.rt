@@ -17,6 +17,3 @@ pub use pivots::{pivot_page, read_pivot};
 pub use profile::{Profile, ProfileFault, read_profile};
 pub use profile_page::write_profile;
 pub use spb_defs::CurveKind;
-
-#[cfg(test)]
-mod tests;

@@ -209,6 +209,3 @@ fn free_pool<D: Disk>(pages: &mut PageStore<'_, D>, first: u32, count: u32)
         unreachable!()
     };
 }
-
-#[cfg(test)]
-mod tests;

@@ -16,6 +16,3 @@ pub use errors::OpenError;
 pub use laws::{started_breaks_alike, started_is_not_refused};
 pub use opened_laws::{opened_or_damaged, started_is_opened};
 pub use opening::{Opening, OpeningParts};
-
-#[cfg(test)]
-mod tests;

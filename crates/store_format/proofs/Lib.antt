@@ -2,4 +2,3 @@ pub mod Pieces
 pub mod Slots
 pub mod Filled
 pub mod Runs
-pub mod Worked

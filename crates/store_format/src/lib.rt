@@ -12,6 +12,3 @@ mod steps;
 
 pub use empty_store::format;
 pub use errors::FormatError;
-
-#[cfg(test)]
-mod tests;

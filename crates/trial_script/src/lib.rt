@@ -9,8 +9,6 @@ mod laws;
 mod lines;
 mod rows;
 mod samples;
-#[cfg(test)]
-mod tests;
 mod totals;
 mod writing;
 

@@ -6,8 +6,6 @@ ghost use Rattle.z_curve.specs.ZOrder.{z_key, z_cell};
 
 mod curve;
 mod spacing;
-#[cfg(test)]
-mod tests;
 
 pub use curve::ZCurve;
 

@@ -1,4 +1,0 @@
-use Rattle.bptree_insert.proofs.tests.+add_ids.Given as goal
-
-abbrev pub decreases-add_ids : goal.decreases-add_ids
-decreases-add_ids l = l.level

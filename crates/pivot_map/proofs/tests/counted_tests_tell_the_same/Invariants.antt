@@ -1,4 +1,0 @@
-use Rattle.pivot_map.proofs.tests.counted_tests_tell_the_same.Given as goal
-
-abbrev pub ghosts-tested_twice : goal.ghosts-tested_twice
-ghosts-tested_twice g a = record { name = a.blank.name; parts = a.blank.parts }

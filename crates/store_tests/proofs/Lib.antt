@@ -1,0 +1,2 @@
+pub mod ThreeSlots
+pub mod NoTrees

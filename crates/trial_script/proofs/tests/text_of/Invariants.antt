@@ -1,6 +1,0 @@
-use Rattle.std.proofs.Common.{length}
-use Rattle.trial_script.proofs.tests.text_of.Given as goal
-
--- fewer lines are left
-abbrev pub decreases-loop-text : goal.decreases-loop-text
-decreases-loop-text l = length l.lines
