@@ -1,6 +1,6 @@
 -- A page that is staged, as one that is put in a change.
-use Rattle.std.proofs.Common.{◌≡◌, inl, inr, ℕ, ◌+◌, ◌<◌, ◌==◌, true, false, not, ◌||◌, List, [], ◌∷◌, length, cond, None, refl, sym, ap, ◌∙◌, arith}
-use Rattle.std.specs.Prelude.{count_by, is_some}
+use Rattle.std.proofs.Common.{◌≡◌, inl, inr, ℕ, ◌+◌, ◌<◌, ◌==◌, true, false, not, ◌||◌, List, [], ◌∷◌, length, cond, Option, Some, None, Bor, refl, sym, ap, ◌∙◌, arith}
+use Rattle.std.specs.Prelude.{count_by, is_some, MatchOption}
 use Rattle.std.specs.Map.{lookup, keys_of}
 use Rattle.std.proofs.lemmas.Bool.{cases_eq, false≢true}
 use Rattle.std.proofs.lemmas.Bool.Decides.{nat_tests}
@@ -41,3 +41,9 @@ joins n old new adds = record {
   others_are = λ m other. adds.numbers_are m ∙ ap (λ b. b || is_among m (keys_of old)) (different n m (λ is. other (sym is)));
   one_more = omega (arith, adds.one_more, length-keys_of old, length-keys_of new);
 }
+
+-- whether a staged page was found is whether it is there
+pub staged_found : (n : ℕ) (es : List (ℕ × List ℕ)) (o : Option (Bor (List ℕ)))
+    → MatchOption o (lookup (λ m. m == n) es ≡ None) (λ page. lookup (λ m. m == n) es ≡ Some page.now) → is_some o ≡ is_among n (keys_of es)
+staged_found n es None is = ap is_some (sym is) ∙ is_some-lookup (λ m. m == n) es
+staged_found n es (Some page) is = ap is_some (sym is) ∙ is_some-lookup (λ m. m == n) es

@@ -1,11 +1,11 @@
 //! The pages of a change over a journal.
-ghost use Rattle.std.specs.Prelude.{◌≡◌, ◌==◌, ◌<◌, [], List, ℕ, Bool, true, false, IsTrue, OnOk, Ok, length};
+ghost use Rattle.std.specs.Prelude.{◌≡◌, ◌==◌, ◌||◌, ◌<◌, [], List, ℕ, Bool, true, false, IsTrue, OnOk, Ok, length};
 ghost use Rattle.std.specs.Map.{keys_of, lookup};
 ghost use Rattle.spb_edge.specs.Calls.{StaysKnown};
 ghost use Rattle.spb_edge.specs.Crash.{IsDurable, CrashesLeaveOnly};
 ghost use Rattle.spb_edge.specs.Fault.{CountsError};
 ghost use Rattle.page_laws.specs.Errors.{CountsFault};
-ghost use Rattle.page_laws.specs.Pages.{HasRoom, JoinsAtMost};
+ghost use Rattle.page_laws.specs.Pages.{is_among, HasRoom, JoinsAtMost};
 ghost use Rattle.redo_journal.specs.Pages.{page, IsHome};
 ghost use Rattle.redo_journal.specs.Redo.{has_open_gate, RecoversTo, overlay};
 ghost use Rattle.redo_journal.specs.Change.{IsBeforeOrAfter};
@@ -54,6 +54,7 @@ pub(crate) fn put_page<D: Disk>(journal: &mut Journal<'_, D>, n: u32, page: &[u8
     ensures here { (pages : ℕ → List ℕ) → overlay (staged_of journal.new) pages n ≡ page.now }
     ensures others { (pages : ℕ → List ℕ) (m : ℕ) → (m ≡ n → ⊥) → overlay (staged_of journal.new) pages m ≡ overlay (staged_of journal.old) pages m }
     ensures put { JoinsAtMost n (keys_of (staged_of journal.old)) (keys_of (staged_of journal.new)) }
+    ensures joins { (m : ℕ) → is_among m (keys_of (staged_of journal.new)) ≡ (n == m || is_among m (keys_of (staged_of journal.old))) }
     ensures some { 0 < length (staged_of journal.new) }
     ensures total { total_of journal.new ≡ total_of journal.old }
     ensures disk { disk_of journal.new ≡ disk_of journal.old }
@@ -88,6 +89,9 @@ pub(crate) fn end_change<D: Disk>(
         → (staged_of journal.old ≡ [] → IsDurable (D.image (disk_of journal.old)) (D.crash_states (disk_of journal.old)))
         → OnOk result (IsDurable (D.image (disk_of journal.new)) (D.crash_states (disk_of journal.new))) }
     ensures silent { staged_of journal.old ≡ [] → (disk_of journal.new ≡ disk_of journal.old) × (result ≡ Ok tt) }
+    ensures others { IsTrue (D.is_known (disk_of journal.old)) → (n : ℕ) → IsHome (total_of journal.old) n
+        → is_among n (keys_of (staged_of journal.old)) ≡ false
+        → page (D.image (disk_of journal.new)) n ≡ page (D.image (disk_of journal.old)) n }
     ensures none { staged_of journal.new ≡ [] }
     ensures total { total_of journal.new ≡ total_of journal.old }
     ensures pages { HasPages D.size_of journal.new }
@@ -119,6 +123,9 @@ fn write_change<D: Disk>(journal: &mut Journal<'_, D>) -> Result<(), DiskFault>
     ensures closed { IsTrue (D.is_known (disk_of journal.old)) → OnOk result (has_open_gate (D.image (disk_of journal.new)) ≡ false) }
     ensures kept { IsTrue (D.is_known (disk_of journal.old)) → IsTrue (D.knows_crashes (disk_of journal.old))
         → OnOk result (IsDurable (D.image (disk_of journal.new)) (D.crash_states (disk_of journal.new))) }
+    ensures others { IsTrue (D.is_known (disk_of journal.old)) → (n : ℕ) → IsHome (total_of journal.old) n
+        → is_among n (keys_of (staged_of journal.old)) ≡ false
+        → page (D.image (disk_of journal.new)) n ≡ page (D.image (disk_of journal.old)) n }
     ensures total { total_of journal.new ≡ total_of journal.old }
     ensures pages { HasPages D.size_of journal.new }
     ensures reads { IsTrue (D.is_known (disk_of journal.old)) → D.reads (disk_of journal.new) ≡ D.reads (disk_of journal.old) }

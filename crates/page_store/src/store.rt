@@ -5,7 +5,7 @@ ghost use Rattle.spb_edge.specs.Calls.{StaysKnown};
 ghost use Rattle.spb_edge.specs.Crash.{IsDurable, CrashesLeaveOnly};
 ghost use Rattle.spb_edge.specs.Fault.{CountsError};
 ghost use Rattle.page_laws.specs.Errors.{CountsFault};
-ghost use Rattle.page_laws.specs.Pages.{risen, AreFree};
+ghost use Rattle.page_laws.specs.Pages.{is_among, risen, AreFree};
 ghost use Rattle.free_list.specs.FreeNumbers.{is_within};
 ghost use Rattle.redo_journal.specs.declared.layout.TheConstants.{PAGE_SIZE, FIRST_HOME};
 ghost use Rattle.redo_journal.specs.Pages.{page};
@@ -145,6 +145,23 @@ impl<'a, D: Disk> PageStore<'a, D> {
         journal.into_inner()
     }
 
+    /// Whether page `n` was put in the open change. It makes no device call, and takes time in proportion to the logarithm
+    /// of the number of pages that were put.
+    pub fn is_put(&self, n: u32) -> bool
+        ensures { result ≡ is_among n (keys_of self.now.staged) }
+    {
+        self.has_put && self.journal.staged_page(n).is_some()
+    }
+
+    /// Counts a page that was asked for and is given from elsewhere, as by a cache.
+    pub fn count_fetch(&mut self)
+        ensures counted { self.new ≡ record self.old { fetches = risen self.old.fetches 1 } }
+        ensures free { AreFree (in_pool self.new) self.new.free }
+        ensures calm { IsCalm D.is_known D.reads D.quiet self.old self.new }
+    {
+        self.fetches = self.fetches.saturating_add(1);
+    }
+
     /// Opens a change. It takes time in proportion to the pool, and no memory.
     pub fn begin(&mut self)
         requires closed { self.old.is_open ≡ false }
@@ -195,6 +212,9 @@ impl<'a, D: Disk> PageStore<'a, D> {
             → OnOk result (IsDurable (D.image self.new.disk) (D.crash_states self.new.disk)) }
         ensures same { IsTrue (D.is_known self.old.disk)
             → OnOk result ((n : ℕ) → IsTrue (has self.old n) → page_at D.image self.new n ≡ page_at D.image self.old n) }
+        // A page that wasn't put reads as before, whatever the answer.
+        ensures others { IsTrue (D.is_known self.old.disk) → (n : ℕ) → IsTrue (has self.old n) → is_among n (keys_of self.old.staged) ≡ false
+            → page (D.image self.new.disk) n ≡ page (D.image self.old.disk) n }
         ensures silent { self.old.staged ≡ [] → (self.new.disk ≡ self.old.disk) × (result ≡ Ok tt) }
         ensures ends { Ends result self.old self.new }
         ensures map { (has self.new ≡ has self.old) × (in_pool self.new ≡ in_pool self.old) }
@@ -229,10 +249,11 @@ pub fn abandon_goes_back<D: Disk>()
 {}
 
 impl<'a, D: Disk> Pages for PageStore<'a, D> {
-    ghost use Rattle.std.specs.Prelude.{◌≡◌, ◌==◌, IsTrue, OnOk};
+    ghost use Rattle.std.specs.Prelude.{◌≡◌, ◌==◌, ◌||◌, ◌<◌, ◌∷◌, ℕ, true, IsTrue, OnOk, length};
     ghost use Rattle.std.specs.Map.{keys_of, lookup};
+    ghost use Rattle.std.specs.List.Sorted.{IsPermutation};
     ghost use Rattle.page_laws.specs.Errors.{CountsFault};
-    ghost use Rattle.page_laws.specs.Pages.{risen, AreFree};
+    ghost use Rattle.page_laws.specs.Pages.{is_among, is_live, risen, AreFree, HasRoom, JoinsAtMost};
     ghost use Rattle.page_store.specs.PageStore as words;
     ghost use Rattle.page_store.specs.PageStore.{IsCalm, HasMemory, reads_after};
 
@@ -278,21 +299,62 @@ impl<'a, D: Disk> Pages for PageStore<'a, D> {
         // The disk is read once, and not at all for a page that was put in the open change.
         ensures reads { IsTrue (D.is_known self.old.disk)
             → D.reads self.new.disk ≡ reads_after (lookup (λ m. m == n) self.old.staged) (D.reads self.old.disk) }
+        ensures changed { self.new ≡ record self.old { disk = self.new.disk; fetches = self.new.fetches } }
     {
         self.fetches = self.fetches.saturating_add(1);
         get_page(&mut self.journal, n, into)
     }
 
-    fn put(&mut self, n: u32, page: &[u8; PAGE_SIZE]) {
+    fn put(&mut self, n: u32, page: &[u8; PAGE_SIZE])
+        requires open { self.old.is_open ≡ true }
+        requires there { IsTrue (words.has self.old n) }
+        requires room { HasRoom n (keys_of self.old.staged) }
+        ensures here { words.page_at D.image self.new n ≡ page.now }
+        ensures others { (m : ℕ) → (m ≡ n → ⊥) → words.page_at D.image self.new m ≡ words.page_at D.image self.old m }
+        ensures put { JoinsAtMost n (keys_of self.old.staged) (keys_of self.new.staged) }
+        ensures told { D.is_known self.new.disk ≡ D.is_known self.old.disk }
+        ensures map { (words.has self.new ≡ words.has self.old) × (words.in_pool self.new ≡ words.in_pool self.old) }
+        ensures free { (self.new.free ≡ self.old.free) × AreFree (words.in_pool self.new) self.new.free }
+        ensures open { self.new.is_open ≡ self.old.is_open }
+        ensures counts { (self.new.fetches ≡ self.old.fetches) × (D.faults self.new.disk ≡ D.faults self.old.disk) }
+        ensures calm { IsCalm D.is_known D.reads D.quiet self.old self.new }
+        // The page is then one of those that were put, and nothing else changes.
+        ensures joins { (m : ℕ) → is_among m (keys_of self.new.staged) ≡ (n == m || is_among m (keys_of self.old.staged)) }
+        ensures changed { self.new ≡ record self.old { staged = self.new.staged } }
+    {
         put_page(&mut self.journal, n, page);
         self.has_put = true;
     }
 
-    fn take_page(&mut self) -> u32 {
+    fn take_page(&mut self) -> u32
+        requires open { self.old.is_open ≡ true }
+        requires some { 0 < length self.old.free }
+        ensures taken { IsPermutation self.old.free (result ∷ self.new.free) }
+        ensures free { AreFree (words.in_pool self.old) self.old.free × AreFree (words.in_pool self.new) self.new.free }
+        ensures told { D.is_known self.new.disk ≡ D.is_known self.old.disk }
+        ensures pages { words.page_at D.image self.new ≡ words.page_at D.image self.old }
+        ensures map { (words.has self.new ≡ words.has self.old) × (words.in_pool self.new ≡ words.in_pool self.old) }
+        ensures open { (self.new.is_open ≡ self.old.is_open) × (keys_of self.new.staged ≡ keys_of self.old.staged) }
+        ensures counts { (self.new.fetches ≡ self.old.fetches) × (D.faults self.new.disk ≡ D.faults self.old.disk) }
+        ensures calm { IsCalm D.is_known D.reads D.quiet self.old self.new }
+        ensures changed { self.new ≡ record self.old { free = self.new.free } }
+    {
         self.free.take()
     }
 
-    fn give_page(&mut self, n: u32) {
+    fn give_page(&mut self, n: u32)
+        requires open { self.old.is_open ≡ true }
+        requires live { IsTrue (is_live (words.in_pool self.old) self.old.free n) }
+        ensures given { IsPermutation self.new.free (n ∷ self.old.free) }
+        ensures free { AreFree (words.in_pool self.new) self.new.free }
+        ensures told { D.is_known self.new.disk ≡ D.is_known self.old.disk }
+        ensures pages { words.page_at D.image self.new ≡ words.page_at D.image self.old }
+        ensures map { (words.has self.new ≡ words.has self.old) × (words.in_pool self.new ≡ words.in_pool self.old) }
+        ensures open { (self.new.is_open ≡ self.old.is_open) × (keys_of self.new.staged ≡ keys_of self.old.staged) }
+        ensures counts { (self.new.fetches ≡ self.old.fetches) × (D.faults self.new.disk ≡ D.faults self.old.disk) }
+        ensures calm { IsCalm D.is_known D.reads D.quiet self.old self.new }
+        ensures changed { self.new ≡ record self.old { free = self.new.free } }
+    {
         self.free.give(n);
     }
 

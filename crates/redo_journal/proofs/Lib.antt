@@ -7,3 +7,4 @@ pub mod Settle
 pub mod Runs
 pub mod Load
 pub mod Staging
+pub mod Torn

@@ -13,10 +13,12 @@ use crate::{DiskFault, GrowError};
 use spb_edge::{Disk, DiskError};
 
 /// Overwrites the disk with the bytes from `at` on, within its size. Until a sync succeeds, a crash may leave any bytes
-/// in this range. `DiskFault` comes only if the disk counted a fault in this call. One device call.
+/// in this range. `DiskFault` comes only if the disk counted a fault in this call; then this range alone may read as
+/// other bytes. One device call.
 pub fn write_piece<D: Disk>(disk: &mut D, at: u64, bytes: &[u8]) -> Result<(), DiskFault>
     requires { at + length bytes.now ≤ D.size_of disk.old }
     ensures image { IsTrue (D.is_known disk.old) → OnOk result (D.image disk.new ≡ overwritten_at (D.image disk.old) at bytes.now) }
+    ensures torn { IsTrue (D.is_known disk.old) → IsTornWrite at (length bytes.now) (D.image disk.old) (D.image disk.new) }
     ensures disk { DiskServes D.is_known D.knows_crashes D.size_of D.faults result disk.old disk.new }
     ensures crash { FollowsBy (IsTornWrite at (length bytes.now)) (D.crash_states disk.old) (D.crash_states disk.new) }
     ensures time { Elapses (D.moment disk.old) (D.moment disk.new) (D.crash_states_since disk.old) (D.crash_states_since disk.new) (D.crash_states disk.new) }
@@ -71,6 +73,7 @@ pub fn sync_all<D: Disk>(disk: &mut D) -> Result<(), DiskFault>
 pub fn write_and_keep<D: Disk>(disk: &mut D, at: u64, bytes: &[u8]) -> Result<(), DiskFault>
     requires { at + length bytes.now ≤ D.size_of disk.old }
     ensures image { IsTrue (D.is_known disk.old) → OnOk result (D.image disk.new ≡ overwritten_at (D.image disk.old) at bytes.now) }
+    ensures torn { IsTrue (D.is_known disk.old) → IsTornWrite at (length bytes.now) (D.image disk.old) (D.image disk.new) }
     ensures kept { IsTrue (D.is_known disk.old) → IsTrue (D.knows_crashes disk.old) → OnOk result (IsDurable (D.image disk.new) (D.crash_states disk.new)) }
     ensures any_moment { IsDurable (D.image disk.old) (D.crash_states disk.old)
         → CrashesLeaveOnly D.moment D.crash_states_since disk.old disk.new (IsTornWrite at (length bytes.now) (D.image disk.old)) }

@@ -1,13 +1,13 @@
 //! A redo journal with a gate over a disk.
 ghost use Rattle.spb_edge.specs.Calls.{StaysKnown};
 ghost use Rattle.std.specs.Prelude.{◌≡◌, ◌⊎◌, ◌*◌, ◌<◌, ◌≤◌, ◌==◌, [], List, ℕ, false, IsTrue, OnOk, IfOk, IfErr, IfSome, MatchOption, None, Some, length};
-ghost use Rattle.std.specs.Map.{lookup};
+ghost use Rattle.std.specs.Map.{keys_of, lookup};
 ghost use Rattle.spb_edge.specs.Fault.{CountsError, next_count};
 ghost use Rattle.spb_edge.specs.Crash.{IsDurable, CrashesLeaveOnly};
 ghost use Rattle.redo_journal.specs.declared.layout.TheConstants.{PAGE_SIZE, CHANGE_LIMIT, HEADER_PAGE, LEAST_PAGES, CLOSED_GATE};
 ghost use Rattle.redo_journal.specs.Pages.{page, gate, IsHome};
 ghost use Rattle.redo_journal.specs.Header.{page_numbers};
-ghost use Rattle.redo_journal.specs.Redo.{has_open_gate, RecoversTo, DiffersWithin};
+ghost use Rattle.redo_journal.specs.Redo.{has_open_gate, RecoversTo, is_listed, DiffersWithin};
 ghost use Rattle.redo_journal.specs.Change.{with_page, Stages, HoldsChange, Commits, IsBeforeOrAfter, IsRedone, Recovers, OnBadHeader, CountsRecoverFault};
 ghost use Rattle.redo_journal.specs.Staging.{AddsOne, OverlaysOne};
 
@@ -185,7 +185,8 @@ impl<'a, D: Disk> Journal<'a, D> {
     ///
     /// If the gate was closed and nothing was pending, a crash during the call leaves an image that stands for the
     /// pages without the change or with all of it. `DiskFault` comes only if the disk counted a fault in this call;
-    /// open the file again then. Four device calls, and all pages in one of them.
+    /// open the file again then. No page that a change may replace reads as other bytes, whatever the call answers. Four
+    /// device calls, and all pages in one of them.
     pub fn commit(&mut self) -> Result<(), DiskFault>
         requires pages { HasPages D.size_of self.old }
         requires some { 0 < length (staged_of self.old) }
@@ -198,6 +199,8 @@ impl<'a, D: Disk> Journal<'a, D> {
             (IsBeforeOrAfter (total_of self.old) (staged_of self.old) marks home) }
         ensures kept { IsTrue (D.is_known (disk_of self.old)) → IsTrue (D.knows_crashes (disk_of self.old))
             → OnOk result (IsDurable (D.image (disk_of self.new)) (D.crash_states (disk_of self.new))) }
+        ensures others { IsTrue (D.is_known (disk_of self.old)) → (n : ℕ) → IsHome (total_of self.old) n
+            → page (D.image (disk_of self.new)) n ≡ page (D.image (disk_of self.old)) n }
         ensures staged { (staged_of self.new ≡ staged_of self.old) × (total_of self.new ≡ total_of self.old) }
         ensures pages { HasPages D.size_of self.new }
         ensures reads { IsTrue (D.is_known (disk_of self.old)) → D.reads (disk_of self.new) ≡ D.reads (disk_of self.old) }
@@ -211,8 +214,8 @@ impl<'a, D: Disk> Journal<'a, D> {
     /// Writes each staged page to its place, in ascending order, closes the gate, and drops the staged pages.
     ///
     /// It follows a commit that answered Ok. What the file stands for stays the same, whenever a crash comes.
-    /// `DiskFault` comes only if the disk counted a fault in this call; open the file again then. A device call for
-    /// each page, and three more.
+    /// `DiskFault` comes only if the disk counted a fault in this call; open the file again then. A page that isn't
+    /// staged reads as before, whatever the call answers. A device call for each page, and three more.
     pub fn settle(&mut self) -> Result<(), DiskFault>
         requires pages { HasPages D.size_of self.old }
         ensures settles { IsTrue (D.is_known (disk_of self.old)) → HoldsChange (staged_of self.old) (D.image (disk_of self.old))
@@ -228,6 +231,9 @@ impl<'a, D: Disk> Journal<'a, D> {
             → CrashesLeaveOnly D.moment D.crash_states_since (disk_of self.old) (disk_of self.new) (λ c. RecoversTo (total_of self.old) c marks home) }
         ensures kept { IsTrue (D.is_known (disk_of self.old)) → IsTrue (D.knows_crashes (disk_of self.old))
             → OnOk result (IsDurable (D.image (disk_of self.new)) (D.crash_states (disk_of self.new))) }
+        ensures others { IsTrue (D.is_known (disk_of self.old)) → (n : ℕ) → IsHome (total_of self.old) n
+            → is_listed n (keys_of (staged_of self.old)) ≡ false
+            → page (D.image (disk_of self.new)) n ≡ page (D.image (disk_of self.old)) n }
         ensures cleared { OnOk result (staged_of self.new ≡ []) }
         ensures total { total_of self.new ≡ total_of self.old }
         ensures pages { HasPages D.size_of self.new }

@@ -6,7 +6,7 @@ ghost use Rattle.spb_edge.specs.Disk.{overwritten_at};
 ghost use Rattle.spb_edge.specs.Crash.{IsDurable, Elapses, CrashesLeaveOnly};
 ghost use Rattle.redo_journal.specs.Calls.{DiskServes};
 ghost use Rattle.redo_journal.specs.declared.layout.TheConstants.{PAGE_SIZE, LEAST_PAGES, CLOSED_GATE};
-ghost use Rattle.redo_journal.specs.Pages.{page, gate};
+ghost use Rattle.redo_journal.specs.Pages.{page, gate, IsHome};
 ghost use Rattle.redo_journal.specs.Header.{AreHomes};
 ghost use Rattle.redo_journal.specs.Redo.{has_open_gate, overlay, RecoversTo, is_listed, DiffersWithin};
 ghost use Rattle.redo_journal.specs.Change.{HoldsChange, AreInPlace, IsRedone, Commits, IsBeforeOrAfter};
@@ -28,6 +28,8 @@ pub(crate) fn commit_staged<D: Disk>(disk: &mut D, staged: &mut Staged) -> Resul
         → RecoversTo staged.old.total (D.image disk.old) marks home → has_open_gate (D.image disk.old) ≡ false
         → CrashesLeaveOnly D.moment D.crash_states_since disk.old disk.new (IsBeforeOrAfter staged.old.total staged.old.pages marks home) }
     ensures kept { IsTrue (D.is_known disk.old) → IsTrue (D.knows_crashes disk.old) → OnOk result (IsDurable (D.image disk.new) (D.crash_states disk.new)) }
+    ensures others { IsTrue (D.is_known disk.old)
+        → (n : ℕ) → IsHome staged.old.total n → page (D.image disk.new) n ≡ page (D.image disk.old) n }
     ensures pages { (staged.new.pages ≡ staged.old.pages) × (staged.new.total ≡ staged.old.total) }
     ensures disk { DiskServes D.is_known D.knows_crashes D.size_of D.faults result disk.old disk.new }
     ensures reads { IsTrue (D.is_known disk.old) → D.reads disk.new ≡ D.reads disk.old }
@@ -42,6 +44,9 @@ fn write_home<D: Disk>(disk: &mut D, n: u32, page: &[u8]) -> Result<(), DiskFaul
     requires within { PAGE_SIZE * n + PAGE_SIZE ≤ D.size_of disk.old }
     requires page { length page.now ≡ PAGE_SIZE }
     ensures image { IsTrue (D.is_known disk.old) → OnOk result (D.image disk.new ≡ overwritten_at (D.image disk.old) (PAGE_SIZE * n) page.now) }
+    // An image that differed from another one at most within some pages, this one among them, still does.
+    ensures differs { IsTrue (D.is_known disk.old) → (total : ℕ) (numbers start : List ℕ) → length start ≡ PAGE_SIZE * total → n < total
+        → IsTrue (is_listed n numbers) → DiffersWithin total numbers start (D.image disk.old) → DiffersWithin total numbers start (D.image disk.new) }
     // A crash state that differed from another image at most within some pages, this one among them, still does.
     ensures crash { (total : ℕ) (numbers start : List ℕ) → length start ≡ PAGE_SIZE * total → n < total → IsTrue (is_listed n numbers)
         → ((c : List ℕ) → D.crash_states disk.old c → DiffersWithin total numbers start c) → (c : List ℕ) → D.crash_states disk.new c
@@ -59,7 +64,7 @@ fn write_all_home<D: Disk>(disk: &mut D, staged: &Staged) -> Result<(), DiskFaul
     requires least { LEAST_PAGES ≤ staged.now.total }
     ensures placed { IsTrue (D.is_known disk.old) → OnOk result (AreInPlace staged.now.pages (D.image disk.new)) }
     ensures differs { IsTrue (D.is_known disk.old)
-        → OnOk result (DiffersWithin staged.now.total (keys_of staged.now.pages) (D.image disk.old) (D.image disk.new)) }
+        → DiffersWithin staged.now.total (keys_of staged.now.pages) (D.image disk.old) (D.image disk.new) }
     ensures any_moment { IsTrue (D.is_known disk.old) → IsDurable (D.image disk.old) (D.crash_states disk.old)
         → CrashesLeaveOnly D.moment D.crash_states_since disk.old disk.new (DiffersWithin staged.now.total (keys_of staged.now.pages) (D.image disk.old)) }
     ensures crash { IsTrue (D.is_known disk.old) → IsDurable (D.image disk.old) (D.crash_states disk.old)
@@ -87,6 +92,8 @@ pub(crate) fn settle_staged<D: Disk>(disk: &mut D, staged: &mut Staged) -> Resul
         → (marks : List ℕ) (home : ℕ → List ℕ) → RecoversTo staged.old.total (D.image disk.old) marks home
         → CrashesLeaveOnly D.moment D.crash_states_since disk.old disk.new (λ c. RecoversTo staged.old.total c marks home) }
     ensures kept { IsTrue (D.is_known disk.old) → IsTrue (D.knows_crashes disk.old) → OnOk result (IsDurable (D.image disk.new) (D.crash_states disk.new)) }
+    ensures others { IsTrue (D.is_known disk.old) → (n : ℕ) → IsHome staged.old.total n
+        → is_listed n (keys_of staged.old.pages) ≡ false → page (D.image disk.new) n ≡ page (D.image disk.old) n }
     ensures cleared { OnOk result (staged.new.pages ≡ []) }
     ensures total { staged.new.total ≡ staged.old.total }
     ensures disk { DiskServes D.is_known D.knows_crashes D.size_of D.faults result disk.old disk.new }

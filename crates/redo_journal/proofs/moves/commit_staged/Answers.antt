@@ -1,9 +1,10 @@
-use Rattle.std.proofs.Common.{◌≡◌, ◌+◌, ◌*◌, ◌<◌, ◌≤◌, ℕ, IsTrue, length, subst, sym, ◌∙◌, ap}
+use Rattle.std.proofs.Common.{◌≡◌, ◌+◌, ◌*◌, ◌<◌, ◌≤◌, ℕ, IsTrue, length, subst, sym, ◌∙◌, ap, arith}
 use Rattle.std.proofs.lemmas.Result.{on_ok_weaker}
 use Rattle.spb_edge.specs.Crash.{IsTornWrite, CrashesLeaveOnly}
 use Rattle.std.specs.Map.{keys_of}
 use Rattle.redo_journal.specs.Header.{header_page}
 use Rattle.redo_journal.proofs.Runs.{HasBody, has_body, committed_so_far, committed, commits}
+use Rattle.redo_journal.proofs.Torn.{journal_torn, gate_only}
 use Rattle.redo_journal.proofs.moves.commit_staged.Goals as goal
 
 pub returns-in_err-write_and_keep-clause-any_moment : goal.returns-in_err-write_and_keep-clause-any_moment
@@ -59,3 +60,29 @@ returns-clause-commits g c = λ tells.
     subst (λ (t : ℕ). HasBody t pages start written) c.seal.ensures.total (subst (λ l. HasBody sealed.total l start written) c.seal.ensures.same as_sealed) in
     on_ok_weaker c.write_and_keep-2.result (commits total pages start written (g.D.Disk.image c.write_and_keep-2.new.disk) c.requires.least size body)
     (c.write_and_keep-2.ensures.image (subst IsTrue (sym c.write_and_keep.ensures.disk.0.0.0) tells))
+
+pub returns-in_err-write_and_keep-clause-others : goal.returns-in_err-write_and_keep-clause-others
+returns-in_err-write_and_keep-clause-others g c = λ tells n home.
+    let pages = c.args.staged.now.pages in
+    let total = c.args.staged.now.total in
+    let size : length (g.D.Disk.image c.args.disk.now) ≡ 512 * total = sym (g.met.D.Disk.length_is c.args.disk.now tells) ∙ c.requires.size in
+    let few : length pages ≤ 80 = subst (λ l. length l ≤ 80) c.seal.ensures.same c.body.ensures.sound.few in
+    let long : length c.body.result.now ≡ 512 * (1 + length pages) = c.body.ensures.long ∙ ap (λ l. 512 * (1 + length l)) c.seal.ensures.same in
+    let first = journal_torn total (length c.body.result.now) (g.D.Disk.image c.args.disk.now) (g.D.Disk.image c.write_and_keep.new.disk) c.requires.least size
+    (omega (arith, few, long)) (c.write_and_keep.ensures.torn tells) n home in
+    first
+
+pub returns-clause-others : goal.returns-clause-others
+returns-clause-others g c = λ tells n home.
+    let pages = c.args.staged.now.pages in
+    let total = c.args.staged.now.total in
+    let size : length (g.D.Disk.image c.args.disk.now) ≡ 512 * total = sym (g.met.D.Disk.length_is c.args.disk.now tells) ∙ c.requires.size in
+    let few : length pages ≤ 80 = subst (λ l. length l ≤ 80) c.seal.ensures.same c.body.ensures.sound.few in
+    let long : length c.body.result.now ≡ 512 * (1 + length pages) = c.body.ensures.long ∙ ap (λ l. 512 * (1 + length l)) c.seal.ensures.same in
+    let first = journal_torn total (length c.body.result.now) (g.D.Disk.image c.args.disk.now) (g.D.Disk.image c.write_and_keep.new.disk) c.requires.least size
+    (omega (arith, few, long)) (c.write_and_keep.ensures.torn tells) n home in
+    let tells_then : IsTrue (g.D.Disk.is_known c.write_and_keep.new.disk) = subst IsTrue (sym c.write_and_keep.ensures.disk.0.0.0) tells in
+    let kept : length (g.D.Disk.image c.write_and_keep.new.disk) ≡ 512 * total =
+    sym (g.met.D.Disk.length_is c.write_and_keep.new.disk tells_then) ∙ c.write_and_keep.ensures.disk.0.1 ∙ c.requires.size in
+    gate_only total (g.D.Disk.image c.write_and_keep.new.disk) (g.D.Disk.image c.write_and_keep-2.new.disk) c.requires.least kept
+    (c.write_and_keep-2.ensures.torn tells_then) n home ∙ first

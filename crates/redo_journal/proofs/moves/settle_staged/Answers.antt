@@ -5,6 +5,7 @@ use Rattle.redo_journal.specs.Redo.{DiffersWithin}
 use Rattle.redo_journal.specs.Change.{AreInPlace}
 use Rattle.redo_journal.proofs.Runs.{settled_so_far, settled}
 use Rattle.redo_journal.proofs.Settle.{differs_home, gate_laid, gate_redone}
+use Rattle.redo_journal.proofs.Torn.{others_stay}
 use Rattle.redo_journal.proofs.moves.settle_staged.Goals as goal
 
 pub returns-in_err-write_all_home-clause-any_moment : goal.returns-in_err-write_all_home-clause-any_moment
@@ -75,3 +76,25 @@ returns-clause-closed g c = λ tells.
     let long = sym (g.met.D.Disk.length_is c.sync_all.new.disk tells_now) ∙ c.sync_all.ensures.disk.0.1 ∙ c.write_all_home.ensures.disk.0.1 ∙ c.requires.size in
     (gate_laid c.args.staged.now.total 0 (g.D.Disk.image c.sync_all.new.disk) (g.D.Disk.image c.write_and_keep.new.disk) c.requires.least long
     (c.in_ok-write_and_keep.ensures.image tells_now)).1
+
+pub returns-in_err-write_and_keep-clause-others : goal.returns-in_err-write_and_keep-clause-others
+returns-in_err-write_and_keep-clause-others g c = λ tells n home free.
+    let tells_then : IsTrue (g.D.Disk.is_known c.write_all_home.new.disk) = subst IsTrue (sym c.write_all_home.ensures.disk.0.0.0) tells in
+    let tells_now : IsTrue (g.D.Disk.is_known c.sync_all.new.disk) = subst IsTrue (sym c.sync_all.ensures.disk.0.0.0) tells_then in
+    let same = c.sync_all.ensures.image tells_then in
+    others_stay c.args.staged.now.total (keys_of c.args.staged.now.pages) (g.D.Disk.image c.args.disk.now) (g.D.Disk.image c.sync_all.new.disk)
+    (g.D.Disk.image c.write_and_keep.new.disk) c.requires.least (sym (g.met.D.Disk.length_is c.args.disk.now tells) ∙ c.requires.size)
+    (subst (DiffersWithin c.args.staged.now.total (keys_of c.args.staged.now.pages) (g.D.Disk.image c.args.disk.now)) (sym same)
+    (c.write_all_home.ensures.differs tells))
+    (c.write_and_keep.ensures.torn tells_now) n home free
+
+pub returns-clause-others : goal.returns-clause-others
+returns-clause-others g c = λ tells n home free.
+    let tells_then : IsTrue (g.D.Disk.is_known c.write_all_home.new.disk) = subst IsTrue (sym c.write_all_home.ensures.disk.0.0.0) tells in
+    let tells_now : IsTrue (g.D.Disk.is_known c.sync_all.new.disk) = subst IsTrue (sym c.sync_all.ensures.disk.0.0.0) tells_then in
+    let same = c.sync_all.ensures.image tells_then in
+    others_stay c.args.staged.now.total (keys_of c.args.staged.now.pages) (g.D.Disk.image c.args.disk.now) (g.D.Disk.image c.sync_all.new.disk)
+    (g.D.Disk.image c.write_and_keep.new.disk) c.requires.least (sym (g.met.D.Disk.length_is c.args.disk.now tells) ∙ c.requires.size)
+    (subst (DiffersWithin c.args.staged.now.total (keys_of c.args.staged.now.pages) (g.D.Disk.image c.args.disk.now)) (sym same)
+    (c.write_all_home.ensures.differs tells))
+    (c.write_and_keep.ensures.torn tells_now) n home free

@@ -27,6 +27,13 @@ returns-in_err-write_home-clause-crash g c = λ tells only.
     c.write_home.ensures.crash _ _ _ long (home_within _ _ c.requires.least c.entry-n.ensures.home) (among _ _ _ _ _ c.entry-n.ensures.entry)
     (so_far.6 tells only)
 
+pub returns-in_err-write_home-clause-differs : goal.returns-in_err-write_home-clause-differs
+returns-in_err-write_home-clause-differs g c = λ tells.
+    let so_far = c.loop-place.invariant in
+    let long = sym (g.met.D.Disk.length_is c.args.disk.now tells) ∙ c.requires.size in
+    c.write_home.ensures.differs (subst IsTrue (sym so_far.1) tells) _ _ _ long (home_within _ _ c.requires.least c.entry-n.ensures.home)
+    (among _ _ _ _ _ c.entry-n.ensures.entry) (so_far.4 tells)
+
 pub loop-place-preserved : goal.loop-place-preserved
 loop-place-preserved g c =
     let so_far = c.loop-place.invariant in

@@ -1,0 +1,50 @@
+//! Calls of the disk that fail.
+ghost use Rattle.std.specs.Prelude.{◌≡◌, true, false, IsTrue};
+ghost use Rattle.redo_journal.specs.Redo.{has_open_gate};
+
+use crate::files::{byte_of, count_reads, is_refused, numbered_disk, pages_over};
+use page_cache::CachedPages;
+use page_laws::Pages;
+use spb_edge::Disk;
+use std::test::Fail;
+
+#[test]
+fn a_refused_get_leaves_the_list(rt: HostRuntime) -> Result<(), Fail> {
+    // Sized once and recovered by two calls: the fifth call is the second page's.
+    let mut disk = numbered_disk(rt.alloc(), &[5])?;
+    let mut pages = pages_over(rt.alloc(), &mut disk, 1)?;
+    assert_eq!(rt; byte_of(&mut pages, 90)?, 90);
+    assert!(rt; is_refused(&mut pages, 91));
+    assert_eq!(rt; byte_of(&mut pages, 90)?, 90);
+    assert_eq!(rt; byte_of(&mut pages, 91)?, 91);
+    // 90 once, 91 twice.
+    assert_eq!(rt; count_reads(pages.into_inner().calls()), 3);
+    Ok(())
+}
+
+/// Puts page 90 in a change whose commit fails, and gives page 91's byte from before and from afterwards.
+fn fail_to_commit<D: Disk>(pages: &mut CachedPages<'_, D>) -> Result<[u8; 2], Fail>
+    requires none { (pages.old.pages.is_open ≡ false) × (pages.old.pages.failed ≡ false) }
+    requires closed { IsTrue (D.is_known pages.old.pages.disk) → has_open_gate (D.image pages.old.pages.disk) ≡ false }
+{
+    let before = byte_of(pages, 91)?;
+    if !pages.is_live(90) {
+        return Err(Fail::new("no page of the pool"));
+    }
+    pages.begin();
+    pages.put(90, &[7; 512]);
+    if pages.commit().is_ok() {
+        return Err(Fail::new("no failure"));
+    }
+    Ok([before, byte_of(pages, 91)?])
+}
+
+#[test]
+fn a_commit_that_fails_leaves_what_is_cached(rt: HostRuntime) -> Result<(), Fail> {
+    // The ninth call writes page 90 home.
+    let mut disk = numbered_disk(rt.alloc(), &[9])?;
+    let mut pages = pages_over(rt.alloc(), &mut disk, 1)?;
+    assert_eq!(rt; fail_to_commit(&mut pages)?, [91, 91]);
+    assert_eq!(rt; count_reads(pages.into_inner().calls()), 1);
+    Ok(())
+}

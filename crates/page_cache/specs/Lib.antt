@@ -1,0 +1,3 @@
+pub mod Misses
+pub mod MissLaws
+pub mod Cached
