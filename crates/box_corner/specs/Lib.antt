@@ -4,3 +4,4 @@ pub mod BoxLaws
 pub mod CurveBoxes
 pub mod CurveBoxLaws
 pub mod IdBoxes
+pub mod Shelves

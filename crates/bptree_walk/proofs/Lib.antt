@@ -11,4 +11,5 @@ pub mod Stacks
 pub mod Counts
 pub mod Passing
 pub mod Whole
+pub mod Within
 pub mod Gathering

@@ -49,6 +49,10 @@ walk_left meets has pages course =
 abbrev pub visits_left : (ℕ → ℕ → Bool) → (ℕ → List ℕ) → Course → ℕ
 visits_left meets pages course = sum_by (λ (a : Ahead). visited meets a.level (tree_at pages a.level a.page)) course.ahead
 
+-- the nodes of the whole walk
+abbrev pub visits_fetched : (ℕ → ℕ → Bool) → (ℕ → List ℕ) → Course → ℕ
+visits_fetched meets pages course = course.fetched + visits_left meets pages course
+
 -- how many entries may be left, whatever the pages hold
 abbrev pub most_left : Course → ℕ
 most_left course = length course.entries + sum_by (λ (a : Ahead). MOST_ENTRIES * MOST_BRANCHES ^ a.level) course.ahead

@@ -113,6 +113,39 @@ impl Cursor {
         self.next_in(pages, &Everything)
     }
 
+    /// The next entry whose key the region has, of the leaves that a walk of the region visits, or None
+    /// exactly after the last one. What [`next_entry`](Cursor::next_entry) says of errors, of fetches and
+    /// of the number that falls holds here too.
+    pub fn next_within<P: Pages, G: Region>(
+        &mut self,
+        pages: &mut P,
+        region: &G,
+    ) -> Result<Option<Entry>, TreeError>
+        ensures gives { IsTrue (P.is_known pages.old)
+            → GivesNext result (words.walk_left (G.meets_box region.now) (G.has_key region.now) (P.page_at pages.old) self.old)
+            (words.walk_left (G.meets_box region.now) (G.has_key region.now) (P.page_at pages.old) self.new) }
+        ensures nodes { IsTrue (P.is_known pages.old)
+            → OnOk result (words.visits_fetched (G.meets_box region.now) (P.page_at pages.old) self.new
+            ≡ words.visits_fetched (G.meets_box region.now) (P.page_at pages.old) self.old) }
+        ensures ended { IsOver result self.new }
+        ensures limit { Falls result (words.most_left self.old) (words.most_left self.new) }
+        ensures fetches { CountsFetches self.old self.new (P.fetches pages.old) (P.fetches pages.new) }
+        ensures sound { IsTrue (P.is_known pages.old) → IsSoundCourse (P.page_at pages.old) (is_live (P.in_pool pages.old) (P.free pages.old)) self.old
+            → IsNotDamaged result × OnOk result (IsSoundCourse (P.page_at pages.old) (is_live (P.in_pool pages.old) (P.free pages.old)) self.new) }
+        ensures part { IsTrue (P.is_known pages.old) → (root : Root) → IsPartOf (P.page_at pages.old) root self.old
+            → IsDamageOf (P.page_at pages.old) (is_live (P.in_pool pages.old) (P.free pages.old)) root result × OnOk result (IsPartOf (P.page_at pages.old) root self.new) }
+        ensures names { NamesWalkRule result }
+        ensures stay { PagesStay P.is_known P.has P.in_pool P.page_at P.free P.is_open P.put_pages P.calm pages.old pages.new }
+        ensures fault { CountsTreeFault result (P.faults pages.old) (P.faults pages.new) }
+    {
+        while let Some(entry) = self.next_in(pages, region)? {
+            if region.has(entry.key) {
+                return Ok(Some(entry));
+            }
+        }
+        Ok(None)
+    }
+
     /// The next entry of the leaves that a walk of the region visits, or None exactly after the last one.
     pub(crate) fn next_in<P: Pages, G: Region>(
         &mut self,

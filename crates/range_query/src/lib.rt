@@ -2,8 +2,8 @@
 #![tactic(auto)]
 
 mod join;
-mod range;
+mod rows;
 
 pub use join::join_rows;
-pub use range::range_rows;
+pub use rows::range_rows;
 pub use spb_defs::{JoinAnswer, RangeAnswer};

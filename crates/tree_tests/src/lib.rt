@@ -8,4 +8,6 @@ mod insertions;
 #[cfg(test)]
 mod nodes;
 #[cfg(test)]
+mod shelves;
+#[cfg(test)]
 mod walks;

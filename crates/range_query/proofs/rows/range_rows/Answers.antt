@@ -5,7 +5,7 @@ use Rattle.pivot_map.specs.declared.row.Row.{Row}
 use Rattle.query_pass.specs.Findings.{PassesOver, MeasuresOpen}
 use Rattle.range_query.specs.Passes.{verdict_of_row}
 use Rattle.range_query.proofs.Ends.{each_row, range-answer, range-log}
-use Rattle.range_query.proofs.range.range_rows.Goals as goal
+use Rattle.range_query.proofs.rows.range_rows.Goals as goal
 
 pub returns-clause-answer : goal.returns-clause-answer
 returns-clause-answer g c =

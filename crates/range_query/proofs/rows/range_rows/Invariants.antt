@@ -1,7 +1,7 @@
 use Rattle.std.proofs.Common.{◌≡◌, take}
 use Rattle.query_pass.specs.Findings.{PassesOver, MeasuresOpen}
 use Rattle.range_query.specs.Passes.{verdict_of_row}
-use Rattle.range_query.proofs.range.range_rows.Given as goal
+use Rattle.range_query.proofs.rows.range_rows.Given as goal
 
 -- the rows so far were passed over
 abbrev pub invariant-loop-row : goal.invariant-loop-row

@@ -1,0 +1,3 @@
+pub mod Reading
+pub mod Regions
+pub mod Shelved
