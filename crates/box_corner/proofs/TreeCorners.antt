@@ -7,7 +7,7 @@ use Rattle.curve_laws.specs.Laws.{IsCurve}
 use Rattle.bptree_node.specs.declared.rows.Entry.{Entry}
 use Rattle.bptree_node.specs.Summaries.{joined_options, summary_of, HasCorners}
 use Rattle.box_corner.specs.Boxes.{Box, point, joined, IsBoxOf}
-use Rattle.box_corner.specs.CurveBoxes.{is_key, entry_box, keys_of, IsMade, AreKeys, AreCorners}
+use Rattle.box_corner.specs.CurveBoxes.{is_key, entry_box, keys_of, IsMade, AreKeys, AreCorners, ReadBack}
 use Rattle.box_corner.specs.CurveBoxLaws.{Decides-is_key, some_if, box_laws}
 use Rattle.box_corner.proofs.Holding.{box_of_point, box_of_joined, one_box, no_box_of_none}
 
@@ -82,3 +82,9 @@ module _ (n b : ℕ) (key_of : List ℕ → ℕ) (cell_of : ℕ → List ℕ) (l
     },
     exact_back entries low high are,
   )
+
+  pub corners_read_back : (entries : List Entry) (low high : ℕ) → HasCorners joined (entry_box n b cell_of) (keys_of key_of) entries low high
+      → ReadBack n b cell_of entries low high
+  corners_read_back entries low high has =
+      let (made, is) = exact entries has.summary has.is in
+      record { box = has.summary; read = (box_laws n b key_of cell_of laws).back has.summary low high made has.corners; is = is }

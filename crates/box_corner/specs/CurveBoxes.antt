@@ -37,3 +37,9 @@ pub record AreCorners (key_of : List ℕ → ℕ) (cell_of : ℕ → List ℕ) (
   pub is : IsBoxOf box (map (λ (e : Entry). cell_of e.key) entries)
   pub low_key : low ≡ key_of box.low
   pub high_key : high ≡ key_of box.high
+
+-- the two keys read back as the exact box around the entries' cells
+pub record ReadBack (n b : ℕ) (cell_of : ℕ → List ℕ) (entries : List Entry) (low high : ℕ) : Type 0 where
+  pub box : Box
+  pub read : branch_box n b cell_of low high ≡ Some box
+  pub is : IsBoxOf box (map (λ (e : Entry). cell_of e.key) entries)

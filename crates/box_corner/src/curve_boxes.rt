@@ -4,7 +4,7 @@ ghost use Rattle.bptree_node.specs.declared.rows.Entry.{Entry};
 ghost use Rattle.bptree_node.specs.Summaries.{HasCorners};
 ghost use Rattle.box_corner.specs.Boxes.{joined};
 ghost use Rattle.box_corner.specs.CurveBoxes as words;
-ghost use Rattle.box_corner.specs.CurveBoxes.{AreCorners, AreKeys};
+ghost use Rattle.box_corner.specs.CurveBoxes.{AreCorners, AreKeys, ReadBack};
 
 use crate::Rect;
 use bptree_node::{Boxes, Entry};
@@ -56,9 +56,12 @@ impl<'a, C: Curve> Boxes<Rect> for CurveBoxes<'a, C> {
 /// does nothing.
 ///
 /// For entries whose keys are keys of the curve, the corners are the keys of the least and the
-/// greatest values of each coordinate of their cells.
+/// greatest values of each coordinate of their cells. Corners that a branch has read back as that box.
 pub fn corners_are_the_box<C: Curve>(curve: &C)
-    ensures { (entries : List Entry) (low high : ℕ) → AreKeys (C.axes curve.now) (C.bits curve.now) entries
+    ensures exact { (entries : List Entry) (low high : ℕ) → AreKeys (C.axes curve.now) (C.bits curve.now) entries
         → (HasCorners joined (words.entry_box (C.axes curve.now) (C.bits curve.now) (C.cell_of curve.now)) (words.keys_of (C.key_of curve.now)) entries low high
         ↔ AreCorners (C.key_of curve.now) (C.cell_of curve.now) entries low high) }
+    ensures read_back { (entries : List Entry) (low high : ℕ)
+        → HasCorners joined (words.entry_box (C.axes curve.now) (C.bits curve.now) (C.cell_of curve.now)) (words.keys_of (C.key_of curve.now)) entries low high
+        → ReadBack (C.axes curve.now) (C.bits curve.now) (C.cell_of curve.now) entries low high }
 {}
