@@ -10,44 +10,24 @@ use Rattle.bptree_node.specs.declared.rows.Branch.{Branch}
 use Rattle.bptree_node.specs.Nodes.{Inner, node_in}
 use Rattle.bptree_node.specs.Summaries.{HasCorners}
 use Rattle.bptree_node.specs.Lists.{all-front, all-back}
-use Rattle.bptree_node.specs.Trees.{goes_before, is_entry, HasFirst}
+use Rattle.bptree_node.specs.Trees.{goes_before, is_entry, IsRising, HasFirst}
 use Rattle.bptree_node.specs.EntryLaws.{AreBefore, AreBehind, StartsBehind, starts-behind, before-first, rising-front, rising-back}
 use Rattle.bptree_insert.specs.declared.grown.Boxed.{Boxed}
 use Rattle.bptree_insert.specs.declared.grown.Grown.{Grown}
 use Rattle.bptree_insert.specs.declared.grown.Grown.TheVariants.{Whole, Split}
-use Rattle.bptree_insert.specs.Rows.{before_branch}
-use Rattle.bptree_insert.specs.NodesAt.{times, list_under, pages_under, list_under_all, pages_under_all, AreChildren, HaveNot, CanTake}
-use Rattle.bptree_insert.specs.Steps.{Regrows, StoresInner, Grows}
-use Rattle.bptree_insert.proofs.Summing.{AreJoined}
-use Rattle.bptree_insert.proofs.Counts.{one_if, times-cons, own_live}
-use Rattle.bptree_insert.proofs.Under.{list-inner, pages-inner, list_all-cons, list_all-append, list_all-none, times_all-cons, times_all-append, own_page, children-front, children-back, children-first, children-others, children-of, inner-of}
-use Rattle.bptree_insert.proofs.Growing.{HaveGrown, grown-among, box-of, boxes-some, first-under, regrown}
+use Rattle.bptree_edit.specs.Parts.{before_branch}
+use Rattle.bptree_edit.specs.NodesAt.{times, list_under, pages_under, list_under_all, pages_under_all, AreChildren, IsBranchOf, AreNodesUnder}
+use Rattle.bptree_insert.specs.Steps.{HaveNot, CanTake, Regrows, StoresInner, Grows}
+use Rattle.bptree_edit.proofs.Summing.{AreJoined}
+use Rattle.bptree_edit.proofs.Counts.{one_if, times-cons, own_live}
+use Rattle.bptree_edit.proofs.Under.{list-inner, pages-inner, list_all-cons, list_all-append, list_all-none, times_all-cons, times_all-append, own_page, children-front, children-back, children-first, children-others, children-of, inner-of}
+use Rattle.bptree_insert.proofs.Growing.{HaveGrown, regrown}
+use Rattle.bptree_insert.proofs.Placing.{placed-within}
+use Rattle.bptree_insert.specs.Rows.{IsPlaced}
+use Rattle.bptree_edit.proofs.Branches.{box-of, boxes-some}
+use Rattle.bptree_edit.proofs.Changing.{changed-among}
+use Rattle.bptree_edit.proofs.Reaching.{around, list_around, times_around, child-at, children-till, children-after, front-before, back-behind}
 use Rattle.bptree_insert.proofs.Storing.{inner-grows}
-
--- ---- lists
-
--- a list around one item
-pub around : {A : Type 0} (xs : List A) (i : ℕ) (d : A) → i < length xs → xs ≡ take i xs ++ (get_or xs i d ∷ [] ++ drop (i + 1) xs)
-around [] i d below = absurd (omega (arith, below))
-around (x ∷ xs) zero d below = refl
-around (x ∷ xs) (suc i) d below =
-    let next : suc (i + 1) ≡ suc i + 1 = omega arith in
-    ap (λ zs. x ∷ zs) (around xs i d (omega (arith, below))) ∙ ap (λ (k : ℕ). x ∷ (take i xs ++ (get_or xs i d ∷ [] ++ drop k (x ∷ xs)))) next
-
--- the first of the branches goes behind, if there is one
-abbrev pub HeadBehind : Entry → List Branch → Type 0
-HeadBehind e [] = Unit {0}
-HeadBehind e (b ∷ bs) = before_branch e b ≡ true
-
-head-drop : (e : Entry) (bs : List Branch) (k : ℕ) → ((d : Branch) → k < length bs → before_branch e (get_or bs k d) ≡ true) → HeadBehind e (drop k bs)
-head-drop e [] zero early = tt
-head-drop e [] (suc k) early = tt
-head-drop e (b ∷ bs) zero early = early b (omega arith)
-head-drop e (b ∷ bs) (suc k) early = head-drop e bs k (λ d below. early d (omega (arith, below)))
-
-starts : (key id first_key first_id : ℕ) (es : List Entry) → HasFirst first_key first_id es → goes_before key id first_key first_id ≡ true → StartsBehind key id es
-starts key id first_key first_id [] first early = absurd first
-starts key id first_key first_id (f ∷ fs) first early = ap₂ (λ (k i : ℕ). goes_before key id k i) first.0 first.1 ∙ early
 
 have-part : {S : Type 0} (entry_box : Entry → Option S) (e : Entry) (xs ys zs : List Entry) → HaveNot entry_box e (xs ++ (ys ++ zs)) → HaveNot entry_box e ys
 have-part entry_box e xs ys zs have = record {
@@ -77,9 +57,18 @@ pub regrows-count : {S : Type 0} (joined : S → S → S) (branch_box : ℕ → 
 regrows-count joined branch_box keys e b Whole mid is = omega (arith, ap length is.1.1)
 regrows-count joined branch_box keys e b (Split left right) mid is = omega (arith, ap length is)
 
+pub regrows-most : {S : Type 0} (joined : S → S → S) (branch_box : ℕ → ℕ → Option S) (keys : S → ℕ × ℕ) (e : Boxed S) (b : Branch) (grown : Grown S) (mid : List Branch)
+    → Regrows joined branch_box keys e b grown mid → length mid ≤ 2
+regrows-most joined branch_box keys e b Whole mid is = omega (arith, ap length is.1.1)
+regrows-most joined branch_box keys e b (Split left right) mid is = omega (arith, ap length is)
+
 pub replaced-count : (bs mid : List Branch) (at : ℕ) → at < length bs → 1 ≤ length mid → length bs ≤ length (replace_range bs at (at + 1) mid)
 replaced-count bs mid at below some =
     omega (arith, length-append (take at bs ++ mid) (drop (at + 1) bs), length-append (take at bs) mid, length-take-le at bs (omega (arith, below)), length-drop (at + 1) bs, some, below)
+
+pub replaced-most : (bs mid : List Branch) (at : ℕ) → at < length bs → length mid ≤ 2 → length (replace_range bs at (at + 1) mid) ≤ length bs + 1
+replaced-most bs mid at below few =
+    omega (arith, length-append (take at bs ++ mid) (drop (at + 1) bs), length-append (take at bs) mid, length-take-le at bs (omega (arith, below)), length-drop (at + 1) bs, few, below)
 
 module _ {S : Type 0} (joined : S → S → S) (entry_box : Entry → Option S) (branch_box : ℕ → ℕ → Option S) (keys : S → ℕ × ℕ) (is_made : S → Type 0)
     (entry_made : (e : Entry) (s : S) → entry_box e ≡ Some s → is_made s) (back_of : (s : S) (low high : ℕ) → is_made s → keys s ≡ (low, high) → branch_box low high ≡ Some s)
@@ -99,41 +88,27 @@ module _ {S : Type 0} (joined : S → S → S) (entry_box : Entry → Option S) 
     children : AreChildren (HasCorners joined entry_box keys) pages (level - 1) bs
     children = children-of (HasCorners joined entry_box keys) pages (level - 1) n bs here can_here.nodes
 
-    parts : AreChildren (HasCorners joined entry_box keys) pages (level - 1) (take at bs ++ (get_or bs at d ∷ [] ++ drop (at + 1) bs))
-    parts = subst (AreChildren (HasCorners joined entry_box keys) pages (level - 1)) (around bs at d below) children
-
-    behind_front : AreChildren (HasCorners joined entry_box keys) pages (level - 1) (get_or bs at d ∷ [] ++ drop (at + 1) bs)
-    behind_front = children-back (HasCorners joined entry_box keys) pages (level - 1) (take at bs) (get_or bs at d ∷ [] ++ drop (at + 1) bs) parts
-
     list_parts : list_under pages (suc (level - 1)) n
         ≡ list_under_all pages (level - 1) (take at bs) ++ (list_under pages (level - 1) (get_or bs at d).child ++ list_under_all pages (level - 1) (drop (at + 1) bs))
-    list_parts =
-        list-inner pages (level - 1) n bs here ∙ ap (list_under_all pages (level - 1)) (around bs at d below)
-        ∙ list_all-append pages (level - 1) (take at bs) (get_or bs at d ∷ [] ++ drop (at + 1) bs)
-        ∙ ap (λ (xs : List Entry). list_under_all pages (level - 1) (take at bs) ++ xs) (list_all-cons pages (level - 1) (get_or bs at d) (drop (at + 1) bs))
+    list_parts = list-inner pages (level - 1) n bs here ∙ list_around pages (level - 1) bs at d below
 
     have : HaveNot entry_box e.entry (list_under_all pages (level - 1) (take at bs)
         ++ (list_under pages (level - 1) (get_or bs at d).child ++ list_under_all pages (level - 1) (drop (at + 1) bs)))
     have = subst (HaveNot entry_box e.entry) list_parts can_here.entries
 
-    times_parts : (m : ℕ) → times m (pages_under pages (suc (level - 1)) n) ≡ one_if n m + times m (pages_under_all pages (level - 1) (take at bs ++ (get_or bs at d ∷ [] ++ drop (at + 1) bs)))
-    times_parts m =
-        ap (times m) (pages-inner pages (level - 1) n bs here) ∙ times-cons m n (pages_under_all pages (level - 1) bs)
-        ∙ ap (λ (cs : List Branch). one_if n m + times m (pages_under_all pages (level - 1) cs)) (around bs at d below)
+    times_here : (m : ℕ) → times m (pages_under pages (suc (level - 1)) n) ≡ one_if n m + times m (pages_under_all pages (level - 1) bs)
+    times_here m = ap (times m) (pages-inner pages (level - 1) n bs here) ∙ times-cons m n (pages_under_all pages (level - 1) bs)
 
     times_child : (m : ℕ) → times m (pages_under pages (level - 1) (get_or bs at d).child) ≤ times m (pages_under pages (suc (level - 1)) n)
-    times_child m =
-        omega (
-          arith,
-          times_parts m,
-          times_all-append m pages (level - 1) (take at bs) (get_or bs at d ∷ [] ++ drop (at + 1) bs),
-          times_all-cons m pages (level - 1) (get_or bs at d) (drop (at + 1) bs),
-        )
+    times_child m = omega (arith, times_here m, times_around pages (level - 1) bs at d below m)
+
+    child : IsBranchOf (HasCorners joined entry_box keys) pages (level - 1) (get_or bs at d) × AreNodesUnder (HasCorners joined entry_box keys) pages (level - 1) (get_or bs at d).child
+    child = child-at pages (level - 1) bs at d below (HasCorners joined entry_box keys) children
 
     -- the entry may be put under the child
     pub child-can : CanTake (HasCorners joined entry_box keys) entry_box in_pool e.entry pages free (level - 1) (get_or bs at d).child
     child-can = record {
-      nodes = (children-first (HasCorners joined entry_box keys) pages (level - 1) (get_or bs at d) (drop (at + 1) bs) behind_front).1;
+      nodes = child.1;
       own = record {
         once = λ m. omega (arith, can_here.own.once m, times_child m);
         pool = λ m some. can_here.own.pool m (omega (arith, times_child m, some));
@@ -150,37 +125,11 @@ module _ {S : Type 0} (joined : S → S → S) (entry_box : Entry → Option S) 
     pub child-box : branch_box (get_or bs at d).low (get_or bs at d).high ≡ None → ⊥
     child-box none =
         let b = get_or bs at d in
-        let has = (children-first (HasCorners joined entry_box keys) pages (level - 1) b (drop (at + 1) bs) behind_front).0.corners in
+        let has = child.0.corners in
         let some = box-of joined entry_box branch_box keys is_made entry_made back_of laws (list_under pages (level - 1) b.child) b.low b.high has in
         cc
 
-    module _ (late : 0 < at → before_branch e.entry (get_or bs at d) ≡ false) (early : (d : Branch) → at + 1 < length bs → before_branch e.entry (get_or bs (at + 1) d) ≡ true) where
-      lower_of : (k : ℕ) → at ≡ k → AreBefore e.entry.key e.entry.id (list_under_all pages (level - 1) (take at bs))
-      lower_of zero same =
-          subst (AreBefore e.entry.key e.entry.id) (sym (ap (λ (i : ℕ). list_under_all pages (level - 1) (take i bs)) same ∙ list_all-none pages (level - 1))) tt
-      lower_of (suc k) same =
-          let b = get_or bs at d in
-          let rest = list_under pages (level - 1) b.child ++ list_under_all pages (level - 1) (drop (at + 1) bs) in
-          let first : HasFirst b.key b.id rest =
-          subst (HasFirst b.key b.id) (list_all-cons pages (level - 1) b (drop (at + 1) bs))
-          (first-under joined entry_box branch_box keys is_made entry_made back_of laws pages (level - 1) b.key b.id (b ∷ drop (at + 1) bs) behind_front (refl, refl)) in
-          before-first e.entry.key e.entry.id b.key b.id (list_under_all pages (level - 1) (take at bs)) rest have.rising first (late (omega (arith, same)))
-
-      upper : AreBehind e.entry.key e.entry.id (list_under_all pages (level - 1) (drop (at + 1) bs))
-      upper =
-          let b = get_or bs at d in
-          let rising = rising-back (list_under pages (level - 1) b.child) (list_under_all pages (level - 1) (drop (at + 1) bs))
-          (rising-back (list_under_all pages (level - 1) (take at bs)) (list_under pages (level - 1) b.child ++ list_under_all pages (level - 1) (drop (at + 1) bs)) have.rising) in
-          starts-behind e.entry.key e.entry.id (list_under_all pages (level - 1) (drop (at + 1) bs)) rising
-          (starts_of (drop (at + 1) bs) (children-others (HasCorners joined entry_box keys) pages (level - 1) b (drop (at + 1) bs) behind_front) (head-drop e.entry bs (at + 1) early))
-        where
-          starts_of : (cs : List Branch) → AreChildren (HasCorners joined entry_box keys) pages (level - 1) cs → HeadBehind e.entry cs
-              → StartsBehind e.entry.key e.entry.id (list_under_all pages (level - 1) cs)
-          starts_of [] are head = subst (StartsBehind e.entry.key e.entry.id) (sym (list_all-none pages (level - 1))) tt
-          starts_of (c ∷ cs) are head =
-              starts e.entry.key e.entry.id c.key c.id (list_under_all pages (level - 1) (c ∷ cs))
-              (first-under joined entry_box branch_box keys is_made entry_made back_of laws pages (level - 1) c.key c.id (c ∷ cs) are (refl, refl)) head
-
+    module _ (late : 0 < at → before_branch e.entry.key e.entry.id (get_or bs at d) ≡ false) (early : (d : Branch) → at + 1 < length bs → before_branch e.entry.key e.entry.id (get_or bs (at + 1) d) ≡ true) where
       module _ (own : entry_box e.entry ≡ Some e.summary) (mid_pages : ℕ → List ℕ) (mid_free : List ℕ) (grown : Grown S)
           (grows : Grows joined entry_box keys e.entry pages mid_pages free mid_free (level - 1) (get_or bs at d).child (Ok grown)) (mid rows : List Branch)
           (regrows : Regrows joined branch_box keys e (get_or bs at d) grown mid) (is_rows : rows ≡ replace_range bs at (at + 1) mid) where
@@ -190,14 +139,20 @@ module _ {S : Type 0} (joined : S → S → S) (entry_box : Entry → Option S) 
         all_grown : HaveGrown (HasCorners joined entry_box keys) e.entry pages mid_pages free mid_free (level - 1) bs rows
         all_grown =
             let b = get_or bs at d in
-            let one = regrown joined entry_box branch_box keys is_made entry_made back_of laws e own pages mid_pages free mid_free (level - 1) b grown mid regrows
-            (children-first (HasCorners joined entry_box keys) pages (level - 1) b (drop (at + 1) bs) behind_front).0 grows in
-            let all = grown-among (HasCorners joined entry_box keys) e.entry pages mid_pages free mid_free (level - 1) (take at bs) b (drop (at + 1) bs) mid one
-            (λ m. omega (arith, can_here.own.once m, times_parts m))
-            (children-front (HasCorners joined entry_box keys) pages (level - 1) (take at bs) (b ∷ [] ++ drop (at + 1) bs) parts)
-            (children-others (HasCorners joined entry_box keys) pages (level - 1) b (drop (at + 1) bs) behind_front) (lower_of at refl) upper in
+            let one = regrown joined entry_box branch_box keys is_made entry_made back_of laws e own pages mid_pages free mid_free (level - 1) b grown mid regrows child.0 grows in
+            let till = take at bs in
+            let after = drop (at + 1) bs in
+            let rising : IsRising (list_under_all pages (level - 1) bs) = subst IsRising (list-inner pages (level - 1) n bs here) can_here.entries.rising in
+            let placed = placed-within e.entry (list_under_all pages (level - 1) till) (list_under_all pages (level - 1) (b ∷ [])) (list_under_all mid_pages (level - 1) mid)
+            (list_under_all pages (level - 1) after) one.changes.placed
+            (front-before joined entry_box branch_box keys is_made entry_made back_of laws e.entry.key e.entry.id pages (level - 1) bs at d below children rising late)
+            (back-behind joined entry_box branch_box keys is_made entry_made back_of laws e.entry.key e.entry.id pages (level - 1) bs at d below children rising early) in
+            let all = changed-among (IsPlaced e.entry) (HasCorners joined entry_box keys) pages mid_pages free mid_free (level - 1) till (b ∷ []) after mid one
+            (λ m. omega (arith, can_here.own.once m, times_here m, ap (λ (cs : List Branch). times m (pages_under_all pages (level - 1) cs)) (around bs at d below)))
+            (children-till pages (level - 1) bs at d below (HasCorners joined entry_box keys) children)
+            (children-after pages (level - 1) bs at d below (HasCorners joined entry_box keys) children) placed in
             subst (λ (cs : List Branch). HaveGrown (HasCorners joined entry_box keys) e.entry pages mid_pages free mid_free (level - 1) bs cs) (sym regrouped)
-            (subst (λ (cs : List Branch). HaveGrown (HasCorners joined entry_box keys) e.entry pages mid_pages free mid_free (level - 1) cs (take at bs ++ (mid ++ drop (at + 1) bs)))
+            (subst (λ (cs : List Branch). HaveGrown (HasCorners joined entry_box keys) e.entry pages mid_pages free mid_free (level - 1) cs (till ++ (mid ++ after)))
             (sym (around bs at d below)) all)
 
         -- the node's new branches have boxes

@@ -1,5 +1,5 @@
 -- After an insertion: what is said of the new root.
-use Rattle.std.proofs.Common.{◌≡◌, ℕ, suc, ◌+◌, ◌-◌, ◌*◌, ◌^◌, ◌<◌, ◌≤◌, Bool, List, [], ◌∷◌, length, sym, ap, subst, arith}
+use Rattle.std.proofs.Common.{◌≡◌, ℕ, suc, ◌+◌, ◌-◌, ◌*◌, ◌^◌, ◌<◌, ◌≤◌, Bool, List, [], ◌∷◌, length, sym, ap, subst, ◌∙◌, arith}
 use Rattle.std.specs.Prelude.{IsTrue, Option, Some, None, Result, Ok, Err, IfOk, MatchResult}
 use Rattle.page_laws.specs.Errors.{IsNotDamaged}
 use Rattle.page_laws.specs.declared.errors.TreeError.{TreeError}
@@ -10,15 +10,18 @@ use Rattle.bptree_node.specs.Nodes.{Leaf}
 use Rattle.bptree_node.specs.Summaries.{HasCorners}
 use Rattle.bptree_node.specs.Trees.{IsRising, IsTree, list_at, pages_at, at_root, list_of, pages_of, slot_of}
 use Rattle.bptree_insert.specs.declared.grown.Boxed.{Boxed}
-use Rattle.bptree_insert.specs.declared.grown.Part.{Part}
+use Rattle.bptree_edit.specs.declared.part.Part.{Part}
 use Rattle.bptree_insert.specs.declared.grown.Grown.TheVariants.{Whole, Split}
-use Rattle.bptree_insert.specs.Growth.{IsWith, HaveBoxes, StaysOutside, AreFreeAfter}
-use Rattle.bptree_insert.specs.NodesAt.{list_under, pages_under, AreNodesUnder, AreOwn, CanTake}
-use Rattle.bptree_insert.specs.Steps.{IsJoined, IsRaised, GrowsTo, Grows}
-use Rattle.bptree_insert.proofs.Summing.{AreJoined}
-use Rattle.bptree_insert.proofs.Counts.{own_live}
-use Rattle.bptree_insert.proofs.Under.{own_page}
-use Rattle.bptree_insert.proofs.Rooted.{own-of, list_at-under, pages_at-under, tree-can, list-after, outside-after, free-after, tree-after}
+use Rattle.bptree_edit.specs.Changes.{IsWith, HaveBoxes, StaysOutside, AreFreeAfter, Changes}
+use Rattle.bptree_edit.specs.NodesAt.{list_under, pages_under, AreNodesUnder, AreOwn}
+use Rattle.bptree_insert.specs.Steps.{CanTake, IsJoined, IsRaised, Grows}
+use Rattle.bptree_edit.proofs.Summing.{AreJoined}
+use Rattle.bptree_edit.proofs.Counts.{own_live}
+use Rattle.bptree_edit.proofs.Under.{own_page}
+use Rattle.bptree_insert.specs.Rows.{IsPlaced}
+use Rattle.bptree_insert.proofs.Placing.{placed-rises}
+use Rattle.bptree_edit.proofs.Rooted.{own-of, list_at-under, pages_at-under, outside-after, free-after, tree-after}
+use Rattle.bptree_insert.proofs.Rooted.{tree-can}
 use Rattle.bptree_insert.proofs.RootSteps.{planted, planted-nodes, many, raised}
 
 -- the new root's tree is the old one's with the entry in it
@@ -30,15 +33,21 @@ pub record IsInserted (are_corners : List Entry → ℕ → ℕ → Type 0) (in_
 
 inserted-at : (are_corners : List Entry → ℕ → ℕ → Type 0) (in_pool new_pool : ℕ → Bool) (e : Entry) (old new : ℕ → List ℕ) (old_free new_free : List ℕ) (root above : Root) (l : ℕ)
     → new_pool ≡ in_pool → above.height ≡ suc l → above.height ≤ 5 → AreOwn in_pool old_free (pages_at old root) → IsRising (list_at old root)
-    → GrowsTo e old new old_free new_free (pages_at old root) (pages_under new l above.page) (list_at old root) (list_under new l above.page)
+    → Changes (IsPlaced e) old new old_free new_free (pages_at old root) (pages_under new l above.page) (list_at old root) (list_under new l above.page)
     → AreNodesUnder are_corners new l above.page → IsInserted are_corners new_pool e old new old_free new_free root above
 inserted-at are_corners in_pool new_pool e old new old_free new_free root above l pool is low own rising grows nodes =
     subst (λ (p : ℕ → Bool). IsInserted are_corners p e old new old_free new_free root above) (sym pool)
     (record {
-      list = list-after are_corners in_pool e old new old_free new_free (pages_at old root) (list_at old root) above l is own grows;
-      tree = tree-after are_corners in_pool e old new old_free new_free (pages_at old root) (list_at old root) above l is own grows low rising nodes;
-      outside = outside-after are_corners in_pool e old new old_free new_free (pages_at old root) (list_at old root) above l is own grows;
-      free = free-after are_corners in_pool e old new old_free new_free (pages_at old root) (list_at old root) above l is own grows;
+      list = record {
+        before = grows.placed.before;
+        after = grows.placed.after;
+        were = grows.placed.were;
+        are = list_at-under new above l is ∙ grows.placed.are;
+      };
+      tree = tree-after (IsPlaced e) are_corners in_pool old new old_free new_free (pages_at old root) (list_at old root) above l is own grows low
+          (placed-rises e (list_at old root) (list_under new l above.page) grows.placed rising) nodes;
+      outside = outside-after (IsPlaced e) are_corners in_pool old new old_free new_free (pages_at old root) (list_at old root) above l is own grows;
+      free = free-after (IsPlaced e) are_corners in_pool old new old_free new_free (pages_at old root) (list_at old root) above l is own grows;
     })
 
 pub match-ok : {A E : Type 0} (P : A → Type 0) (Q : E → Type 0) (R : A → Type 0) (r : Result A E) → MatchResult r P Q → ((x : A) → P x → R x) → IfOk r R
@@ -77,11 +86,11 @@ module _ {S : Type 0} (joined : S → S → S) (entry_box : Entry → Option S) 
     root-can boxes absent = tree-can (HasCorners joined entry_box keys) entry_box in_pool e.entry start start_free root (root.height - 1) tall are tree boxes absent
 
     at_rooted : (new : ℕ → List ℕ) (new_free new_pages : List ℕ) (new_list : List Entry)
-        → GrowsTo e.entry start new start_free new_free (pages_under start (root.height - 1) root.page) new_pages (list_under start (root.height - 1) root.page) new_list
-        → GrowsTo e.entry start new start_free new_free (pages_at start root) new_pages (list_at start root) new_list
+        → Changes (IsPlaced e.entry) start new start_free new_free (pages_under start (root.height - 1) root.page) new_pages (list_under start (root.height - 1) root.page) new_list
+        → Changes (IsPlaced e.entry) start new start_free new_free (pages_at start root) new_pages (list_at start root) new_list
     at_rooted new new_free new_pages new_list grows =
-        subst (λ (ns : List ℕ). GrowsTo e.entry start new start_free new_free ns new_pages (list_at start root) new_list) (sym (pages_at-under start root (root.height - 1) tall))
-        (subst (λ (es : List Entry). GrowsTo e.entry start new start_free new_free (pages_under start (root.height - 1) root.page) new_pages es new_list)
+        subst (λ (ns : List ℕ). Changes (IsPlaced e.entry) start new start_free new_free ns new_pages (list_at start root) new_list) (sym (pages_at-under start root (root.height - 1) tall))
+        (subst (λ (es : List Entry). Changes (IsPlaced e.entry) start new start_free new_free (pages_under start (root.height - 1) root.page) new_pages es new_list)
         (sym (list_at-under start root (root.height - 1) tall)) grows)
 
     pub whole-inserted : (new_pool : ℕ → Bool) (new : ℕ → List ℕ) (new_free : List ℕ) → new_pool ≡ in_pool
@@ -121,6 +130,6 @@ plant-inserted are_corners in_pool new_pool e old new old_free new_free root abo
     let grows = planted e old new old_free new_free above.page joined in
     inserted-at are_corners in_pool new_pool e old new old_free new_free root above 0 pool height (omega (arith, height))
     (own-of in_pool old_free (pages_at old root) are tree.tree.distinct tree.tree.live) tree.tree.rising
-    (subst (λ (ns : List ℕ). GrowsTo e old new old_free new_free ns (pages_under new 0 above.page) (list_at old root) (list_under new 0 above.page)) (sym no_pages)
-    (subst (λ (es : List Entry). GrowsTo e old new old_free new_free [] (pages_under new 0 above.page) es (list_under new 0 above.page)) (sym no_list) grows))
+    (subst (λ (ns : List ℕ). Changes (IsPlaced e) old new old_free new_free ns (pages_under new 0 above.page) (list_at old root) (list_under new 0 above.page)) (sym no_pages)
+    (subst (λ (es : List Entry). Changes (IsPlaced e) old new old_free new_free [] (pages_under new 0 above.page) es (list_under new 0 above.page)) (sym no_list) grows))
     (planted-nodes e old new old_free new_free above.page joined are_corners)

@@ -9,9 +9,8 @@ use Rattle.bptree_node.specs.Nodes.{Leaf, node_in}
 use Rattle.bptree_node.specs.Summaries.{HasCorners}
 use Rattle.bptree_insert.specs.declared.grown.Grown.{Grown}
 use Rattle.bptree_insert.specs.Rows.{entry_before, IsPlaced}
-use Rattle.bptree_insert.specs.NodesAt.{HaveNot, CanTake}
-use Rattle.bptree_insert.specs.Steps.{StoresLeaf, Grows}
-use Rattle.bptree_insert.proofs.Under.{list-leaf, leaf-of}
+use Rattle.bptree_insert.specs.Steps.{HaveNot, CanTake, StoresLeaf, Grows}
+use Rattle.bptree_edit.proofs.Under.{list-leaf, leaf-of}
 use Rattle.bptree_insert.proofs.Placing.{placed-at, all-inserted}
 use Rattle.bptree_insert.proofs.Storing.{leaf-grows}
 

@@ -1,8 +1,4 @@
-pub mod Summing
-pub mod Counts
 pub mod PageSteps
-pub mod Lists
-pub mod Under
 pub mod Placing
 pub mod Growing
 pub mod Storing

@@ -5,9 +5,10 @@ use Rattle.std.specs.List.Sorted.{IsPermutation}
 use Rattle.std.proofs.lemmas.List.Sorted.{length_permutation}
 use Rattle.page_laws.specs.Pages.{is_live}
 use Rattle.bptree_node.specs.Nodes.{Node, node_in}
-use Rattle.bptree_insert.specs.NodesAt.{times}
-use Rattle.bptree_insert.specs.Steps.{PagesGrow, IsWritten, AreWritten, IsJoined}
-use Rattle.bptree_insert.proofs.Counts.{times-permutation, times-cons, taken_other}
+use Rattle.bptree_edit.specs.NodesAt.{times}
+use Rattle.bptree_edit.specs.Steps.{PagesGrow, IsWritten}
+use Rattle.bptree_insert.specs.Steps.{AreWritten, IsJoined}
+use Rattle.bptree_edit.proofs.Counts.{times-permutation, times-cons, taken_other}
 
 module _ {P : Type 0} {is_known : P → Bool} {has in_pool : P → ℕ → Bool} {free : P → List ℕ} {is_open : P → Bool} {put_pages : P → List ℕ} {calm : P → P → Type 0} where
   -- one step after another

@@ -9,9 +9,10 @@ use Rattle.bptree_node.specs.declared.rows.Branch.{Branch}
 use Rattle.bptree_node.specs.Lists.{all-append}
 use Rattle.bptree_node.specs.Trees.{goes_before, is_entry, IsRising, HasFirst}
 use Rattle.bptree_node.specs.EntryLaws.{AreBefore, AreBehind, AreApart, rising-front, rising-back, rising-apart, rising-append, behind-further}
-use Rattle.bptree_insert.specs.Rows.{entry_before, before_branch, IsPlaced}
+use Rattle.bptree_insert.specs.Rows.{entry_before, IsPlaced}
+use Rattle.bptree_edit.specs.Parts.{before_branch}
 use Rattle.bptree_insert.specs.Steps.{earlier}
-use Rattle.bptree_insert.proofs.Lists.{all-take, all-drop}
+use Rattle.bptree_edit.proofs.Lists.{all-take, all-drop}
 
 -- between entries that go before it and entries that go behind it
 pub placed-within : (e : Entry) (front old new back : List Entry) → IsPlaced e old new → AreBefore e.key e.id front → AreBehind e.key e.id back
@@ -40,19 +41,19 @@ placed-rises e old new is rising =
 
 -- ---- the first one
 
-not_first : (e f : Entry) (b : Branch) → IsTrue (entry_before f e) → (f.key ≡ b.key) × (f.id ≡ b.id) → before_branch e b ≡ false
+not_first : (e f : Entry) (b : Branch) → IsTrue (entry_before f e) → (f.key ≡ b.key) × (f.id ≡ b.id) → before_branch e.key e.id b ≡ false
 not_first e f b before first = later e.key e.id f.key f.id b.key b.id before first.0 first.1
   where
     later : (key id key' id' key'' id'' : ℕ) → IsTrue (goes_before key' id' key id) → key' ≡ key'' → id' ≡ id'' → goes_before key id key'' id'' ≡ false
     later key id key' id' key'' id'' before one two = grind (arith, nat_tests)
 
-is_first : (e f : Entry) (b : Branch) → IsTrue (entry_before e f) → (f.key ≡ b.key) × (f.id ≡ b.id) → before_branch e b ≡ true
+is_first : (e f : Entry) (b : Branch) → IsTrue (entry_before e f) → (f.key ≡ b.key) × (f.id ≡ b.id) → before_branch e.key e.id b ≡ true
 is_first e f b before first = ap₂ (λ (key id : ℕ). goes_before e.key e.id key id) (sym first.0) (sym first.1) ∙ before
 
-earlier-e : (b : Branch) (e : Entry) → before_branch e b ≡ true → earlier b e ≡ (e.key, e.id)
+earlier-e : (b : Branch) (e : Entry) → before_branch e.key e.id b ≡ true → earlier b e ≡ (e.key, e.id)
 earlier-e b e is = (λ i. if is i then (e.key, e.id) else (b.key, b.id))
 
-earlier-b : (b : Branch) (e : Entry) → before_branch e b ≡ false → earlier b e ≡ (b.key, b.id)
+earlier-b : (b : Branch) (e : Entry) → before_branch e.key e.id b ≡ false → earlier b e ≡ (b.key, b.id)
 earlier-b b e is = (λ i. if is i then (e.key, e.id) else (b.key, b.id))
 
 first_of : (e : Entry) (b : Branch) (before after : List Entry) → AreBefore e.key e.id before → AreBehind e.key e.id after → HasFirst b.key b.id (before ++ after)

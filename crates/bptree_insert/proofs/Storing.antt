@@ -7,24 +7,19 @@ use Rattle.bptree_node.specs.declared.rows.Entry.{Entry}
 use Rattle.bptree_node.specs.declared.rows.Branch.{Branch}
 use Rattle.bptree_node.specs.Nodes.{Leaf, Inner, node_in}
 use Rattle.bptree_node.specs.Summaries.{HasCorners, summary_of}
-use Rattle.bptree_insert.specs.declared.grown.Part.{Part}
+use Rattle.bptree_edit.specs.declared.part.Part.{Part}
 use Rattle.bptree_insert.specs.declared.grown.Grown.{Grown}
 use Rattle.bptree_insert.specs.declared.grown.Grown.TheVariants.{Whole, Split}
 use Rattle.bptree_node.specs.Trees.{HasFirst}
 use Rattle.bptree_insert.specs.Rows.{IsPlaced}
-use Rattle.bptree_insert.specs.NodesAt.{times, list_under, pages_under, list_under_all, pages_under_all, rows_in, AreChildren}
+use Rattle.bptree_edit.specs.NodesAt.{times, list_under, pages_under, list_under_all, pages_under_all, rows_in, AreChildren}
 use Rattle.bptree_insert.specs.Steps.{IsLeafStored, IsLeafSplit, IsInnerStored, IsInnerSplit, StoresLeaf, StoresInner, IsGrown, IsSplit, Grows}
-use Rattle.bptree_insert.proofs.Summing.{AreJoined}
-use Rattle.bptree_insert.proofs.Counts.{one_if, one_same, times-none, times-cons, times-append}
-use Rattle.bptree_insert.proofs.Under.{AreKept, list-leaf, pages-leaf, list-inner, pages-inner, list_all-append, times_all-append, list_all-kept, times_all-kept, all-kept, children-front, children-back, nodes-of, of-leaf}
-use Rattle.bptree_insert.proofs.Growing.{HaveGrown, first-under, summary-under}
-
--- where a number is another one than all of some pages, none of these is it
-pub differs : (n m : ℕ) (xs : List ℕ) → times n xs ≡ 0 → 0 < times m xs → m ≡ n → ⊥
-differs n m xs none some is = omega (arith, some, subst (λ k. times k xs ≡ 0) (sym is) none)
-
-pub one-none : (n m : ℕ) → one_if n m ≡ 0 → m ≡ n → ⊥
-one-none n m none is = omega (arith, none, subst (λ k. one_if n k ≡ 1) (sym is) (one_same n))
+use Rattle.bptree_edit.proofs.Summing.{AreJoined}
+use Rattle.bptree_edit.proofs.Counts.{one_if, one_same, times-none, times-cons, times-append}
+use Rattle.bptree_edit.proofs.Under.{AreKept, list-leaf, pages-leaf, list-inner, pages-inner, list_all-append, times_all-append, list_all-kept, times_all-kept, all-kept, children-front, children-back, nodes-of, of-leaf}
+use Rattle.bptree_insert.proofs.Growing.{HaveGrown}
+use Rattle.bptree_edit.proofs.Branches.{first-under, summary-under}
+use Rattle.bptree_edit.proofs.Changing.{differs, one-none}
 
 -- ---- an inner node
 
@@ -40,7 +35,7 @@ module _ {S : Type 0} (joined : S → S → S) (entry_box : Entry → Option S) 
 
   -- the node's page is none of those under the branches
   not_under : times n (pages_under_all old l are) ≡ 0
-  not_under = omega (arith, grown.moved n, once n, start_times n, one_same n)
+  not_under = omega (arith, grown.changes.moved n, once n, start_times n, one_same n)
 
   pub inner-stored : IsInnerStored n are old new old_free new_free → IsGrown joined entry_box keys e start new start_free new_free (suc l) n
   inner-stored stored =
@@ -48,7 +43,7 @@ module _ {S : Type 0} (joined : S → S → S) (entry_box : Entry → Option S) 
       let here = stored.written.here in
       let times_now : (m : ℕ) → times m (pages_under new (suc l) n) ≡ one_if n m + times m (pages_under_all old l are) =
       λ m. ap (times m) (pages-inner new l n are here) ∙ times-cons m n (pages_under_all new l are) ∙ ap (λ (k : ℕ). one_if n m + k) (times_all-kept m old new l are kept) in
-      let placed = grown.placed in
+      let placed = grown.changes.placed in
       record {
         grows = record {
           placed = record {
@@ -59,8 +54,8 @@ module _ {S : Type 0} (joined : S → S → S) (entry_box : Entry → Option S) 
             lower = placed.lower;
             upper = placed.upper;
           };
-          moved = λ m. omega (arith, grown.moved m, start_times m, times_now m, ap (times m) stored.free);
-          outside = λ m none. stored.written.others m (one-none n m (omega (arith, none, times_now m))) ∙ grown.outside m (omega (arith, none, times_now m));
+          moved = λ m. omega (arith, grown.changes.moved m, start_times m, times_now m, ap (times m) stored.free);
+          outside = λ m none. stored.written.others m (one-none n m (omega (arith, none, times_now m))) ∙ grown.changes.outside m (omega (arith, none, times_now m));
         };
         nodes = nodes-of (HasCorners joined entry_box keys) new l n are here (all-kept (HasCorners joined entry_box keys) old new l are kept grown.children);
         rows = omega (arith, ap rows_in node, ap rows_in here, more);
@@ -75,7 +70,7 @@ module _ {S : Type 0} (joined : S → S → S) (entry_box : Entry → Option S) 
       let w = split.written in
       let whole : low ++ high ≡ are = take-append-drop 7 are in
       let q_free : (m : ℕ) → times m old_free ≡ one_if q m + times m new_free = λ m. w.was_free m ∙ times-cons m q new_free in
-      let not_q : times q (pages_under_all old l are) ≡ 0 = omega (arith, grown.moved q, once q, start_times q, q_free q, one_same q) in
+      let not_q : times q (pages_under_all old l are) ≡ 0 = omega (arith, grown.changes.moved q, once q, start_times q, q_free q, one_same q) in
       let kept : AreKept old new (pages_under_all old l are) =
       λ m some. w.others m (differs n m (pages_under_all old l are) not_under some) (differs q m (pages_under_all old l are) not_q some) in
       let now = all-kept (HasCorners joined entry_box keys) old new l are kept grown.children in
@@ -97,7 +92,7 @@ module _ {S : Type 0} (joined : S → S → S) (entry_box : Entry → Option S) 
       let all : times m (pages_under_all new l low) + times m (pages_under_all new l high) ≡ times m (pages_under_all old l are) =
       sym (times_all-append m new l low high) ∙ ap (λ (bs : List Branch). times m (pages_under_all new l bs)) whole ∙ times_all-kept m old new l are kept in
       omega (arith, times-append m (pages_under new (suc l) left.page) (pages_under new (suc l) q), one, two, all) in
-      let placed = grown.placed in
+      let placed = grown.changes.placed in
       record {
         grows = record {
           placed = record {
@@ -108,9 +103,9 @@ module _ {S : Type 0} (joined : S → S → S) (entry_box : Entry → Option S) 
             lower = placed.lower;
             upper = placed.upper;
           };
-          moved = λ m. omega (arith, grown.moved m, start_times m, times_now m, q_free m);
+          moved = λ m. omega (arith, grown.changes.moved m, start_times m, times_now m, q_free m);
           outside = λ m none.
-              w.others m (one-none n m (omega (arith, none, times_now m))) (one-none q m (omega (arith, none, times_now m))) ∙ grown.outside m (omega (arith, none, times_now m));
+              w.others m (one-none n m (omega (arith, none, times_now m))) (one-none q m (omega (arith, none, times_now m))) ∙ grown.changes.outside m (omega (arith, none, times_now m));
         };
         first = record {
           nodes = nodes-of (HasCorners joined entry_box keys) new l left.page low here first;

@@ -2,16 +2,11 @@
 use Rattle.std.specs.Prelude.{◌≡◌, ℕ, Bool, IsTrue, List, [], ◌∷◌, ◌++◌}
 use Rattle.std.specs.List.{AllByRecursion}
 use Rattle.bptree_node.specs.declared.rows.Entry.{Entry}
-use Rattle.bptree_node.specs.declared.rows.Branch.{Branch}
 use Rattle.bptree_node.specs.Trees.{goes_before}
 
 -- whether an entry goes before another one
 abbrev pub entry_before : Entry → Entry → Bool
 entry_before e f = goes_before e.key e.id f.key f.id
-
--- whether an entry goes before the first one under a branch
-abbrev pub before_branch : Entry → Branch → Bool
-before_branch e b = goes_before e.key e.id b.key b.id
 
 -- the new list is the old one with the entry behind all that go before it, and before all others
 pub record IsPlaced (e : Entry) (old new : List Entry) : Type 0 where
@@ -21,8 +16,3 @@ pub record IsPlaced (e : Entry) (old new : List Entry) : Type 0 where
   pub are : new ≡ before ++ e ∷ after
   pub lower : AllByRecursion (λ (f : Entry). IsTrue (entry_before f e)) before
   pub upper : AllByRecursion (λ (f : Entry). IsTrue (entry_before e f)) after
-
--- the first branch has this key and this id
-abbrev pub HasFirstBranch : ℕ → ℕ → List Branch → Type 0
-HasFirstBranch key id [] = ⊥
-HasFirstBranch key id (b ∷ bs) = (b.key ≡ key) × (b.id ≡ id)

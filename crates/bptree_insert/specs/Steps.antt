@@ -1,5 +1,6 @@
 -- What an insertion makes of a node, of its branches and of the pages.
-use Rattle.std.specs.Prelude.{◌≡◌, ℕ, ◌+◌, ◌≤◌, ◌<◌, Bool, List, [], ◌∷◌, ◌++◌, length, take, drop, Option, Some, Result, Ok, Err, if◌then◌else◌}
+use Rattle.std.specs.List.{AllByRecursion}
+use Rattle.std.specs.Prelude.{◌≡◌, ℕ, ◌+◌, ◌≤◌, ◌<◌, Bool, false, IsTrue, IsSome, List, [], ◌∷◌, ◌++◌, length, take, drop, Option, Some, Result, Ok, Err, if◌then◌else◌}
 use Rattle.page_laws.specs.declared.errors.TreeError.{TreeError}
 use Rattle.page_laws.specs.declared.errors.TreeError.TheVariants as tree
 use Rattle.page_laws.specs.declared.root.Root.{Root}
@@ -11,29 +12,18 @@ use Rattle.bptree_node.specs.declared.rows.Entry.{Entry}
 use Rattle.bptree_node.specs.declared.rows.Branch.{Branch}
 use Rattle.bptree_node.specs.Nodes.{Node, Leaf, Inner, node_in}
 use Rattle.bptree_node.specs.Summaries.{summary_of, HasCorners}
-use Rattle.bptree_node.specs.Trees.{HasFirst}
+use Rattle.bptree_node.specs.Trees.{is_entry, IsRising, HasFirst}
 use Rattle.bptree_insert.specs.declared.grown.Boxed.{Boxed}
-use Rattle.bptree_insert.specs.declared.grown.Part.{Part}
+use Rattle.bptree_edit.specs.declared.part.Part.{Part}
 use Rattle.bptree_insert.specs.declared.grown.Grown.{Grown}
 use Rattle.bptree_insert.specs.declared.grown.Grown.TheVariants.{Whole, Split}
-use Rattle.bptree_insert.specs.Rows.{before_branch, IsPlaced, HasFirstBranch}
-use Rattle.bptree_insert.specs.NodesAt.{times, list_under, pages_under, rows_in, least_rows, AreNodesUnder}
+use Rattle.bptree_edit.specs.Changes.{Changes}
+use Rattle.bptree_edit.specs.Steps.{IsWritten}
+use Rattle.bptree_edit.specs.Parts.{before_branch, HasFirstBranch, IsLeafPart, IsInnerPart, IsPartOf, branch_of}
+use Rattle.bptree_insert.specs.Rows.{IsPlaced}
+use Rattle.bptree_edit.specs.NodesAt.{times, list_under, pages_under, rows_in, least_rows, AreNodesUnder, AreOwn}
 
 -- ---- the pages
-
--- of pages that a change puts and takes, what goes on whatever a call answers: at most so many were taken and put, and
--- none was given back
-pub record PagesGrow {P : Type 0} (is_known : P → Bool) (has in_pool : P → ℕ → Bool) (free : P → List ℕ) (is_open : P → Bool) (put_pages : P → List ℕ)
-    (calm : P → P → Type 0) (takes puts : ℕ) (old new : P) : Type 0 where
-  pub change : PagesChange is_known has in_pool is_open calm old new
-  pub taken : length (free old) ≤ length (free new) + takes
-  pub fewer : (n : ℕ) → times n (free new) ≤ times n (free old)
-  pub put : length (put_pages new) ≤ length (put_pages old) + puts
-
--- the page is the node, and the others are as they were
-pub record IsWritten (n : ℕ) (node : Node) (old new : ℕ → List ℕ) : Type 0 where
-  pub here : node_in (new n) ≡ Some node
-  pub others : (m : ℕ) → (m ≡ n → ⊥) → new m ≡ old m
 
 -- the page and a free one that was taken are the two nodes, and the others are as they were
 pub record AreWritten (n : ℕ) (node : Node) (taken : ℕ) (other : Node) (old new : ℕ → List ℕ) (old_free new_free : List ℕ) : Type 0 where
@@ -47,47 +37,12 @@ pub record IsJoined (taken : ℕ) (node : Node) (old new : ℕ → List ℕ) (ol
   pub written : IsWritten taken node old new
   pub was_free : (m : ℕ) → times m old_free ≡ times m (taken ∷ new_free)
 
--- ---- the rules
-
--- the rules that an insertion under a node tests
-abbrev pub IsTested : Rule → Type 0
-IsTested rule.Size = ⊥
-IsTested rule.Journal = ⊥
-IsTested rule.Profile = ⊥
-IsTested rule.Pivot = ⊥
-IsTested rule.Page = Unit {0}
-IsTested rule.Node = Unit {0}
-IsTested rule.Fill = ⊥
-IsTested rule.Order = ⊥
-IsTested rule.Key = Unit {0}
-IsTested rule.Box = Unit {0}
-IsTested rule.Slot = ⊥
-IsTested rule.Match = ⊥
-
-abbrev pub NamesTested : {A : Type 0} → Result A TreeError → Type 0
-NamesTested (Ok _) = Unit {0}
-NamesTested (Err (tree.Damaged page rule)) = IsTested rule
-NamesTested (Err tree.Fault) = Unit {0}
-NamesTested (Err tree.Memory) = Unit {0}
-
 -- ---- parts
 
 -- the summaries are made of entries, of branches or by joining
 abbrev pub AreMade : {S : Type 0} → (S → Type 0) → Grown S → Type 0
 AreMade is_made Whole = Unit {0}
 AreMade is_made (Split left right) = is_made left.summary × is_made right.summary
-
--- the part has the page, and the first key and id and the summary of the entries
-pub record IsLeafPart {S : Type 0} (joined : S → S → S) (entry_box : Entry → Option S) (page : ℕ) (entries : List Entry) (part : Part S) : Type 0 where
-  pub place : part.page ≡ page
-  pub first : HasFirst part.key part.id entries
-  pub is : summary_of joined entry_box entries ≡ Some part.summary
-
--- the same of branches
-pub record IsInnerPart {S : Type 0} (joined : S → S → S) (branch_box : ℕ → ℕ → Option S) (page : ℕ) (branches : List Branch) (part : Part S) : Type 0 where
-  pub place : part.page ≡ page
-  pub first : HasFirstBranch part.key part.id branches
-  pub is : summary_of joined (λ (b : Branch). branch_box b.low b.high) branches ≡ Some part.summary
 
 -- the entries are stored on the page, or the first ones there and the others on a page that was taken
 pub record IsLeafStored (n : ℕ) (entries : List Entry) (old new : ℕ → List ℕ) (old_free new_free : List ℕ) : Type 0 where
@@ -127,13 +82,9 @@ StoresInner joined branch_box n branches old new old_free new_free (Err _) = Uni
 
 -- ---- branches
 
--- the branch of a node
-abbrev pub branch_of : {S : Type 0} → (S → ℕ × ℕ) → Part S → Branch
-branch_of keys part = record { key = part.key; id = part.id; child = part.page; low = (keys part.summary).0; high = (keys part.summary).1 }
-
 -- the key and the id of the branch or of the entry, whichever come first
 abbrev pub earlier : Branch → Entry → ℕ × ℕ
-earlier b e = if before_branch e b then (e.key, e.id) else (b.key, b.id)
+earlier b e = if before_branch e.key e.id b then (e.key, e.id) else (b.key, b.id)
 
 -- the branch with an entry more under it
 abbrev pub widened_by : {S : Type 0} → (S → S → S) → (S → ℕ × ℕ) → Boxed S → Branch → S → Branch
@@ -164,29 +115,28 @@ pub record IsRaised {S : Type 0} (keys : S → ℕ × ℕ) (root : Root) (left r
 
 -- ---- trees
 
--- the entry is in the list, the new tree's pages are the old one's and free ones, and no other page is another one
-pub record GrowsTo (e : Entry) (old new : ℕ → List ℕ) (old_free new_free old_pages new_pages : List ℕ) (old_list new_list : List Entry) : Type 0 where
-  pub placed : IsPlaced e old_list new_list
-  pub moved : (m : ℕ) → times m old_free + times m old_pages ≡ times m new_free + times m new_pages
-  pub outside : (m : ℕ) → times m new_pages ≡ 0 → new m ≡ old m
+-- the entries rise and have summaries, and the entry isn't one of them
+pub record HaveNot {S : Type 0} (entry_box : Entry → Option S) (e : Entry) (entries : List Entry) : Type 0 where
+  pub rising : IsRising entries
+  pub absent : AllByRecursion (λ (f : Entry). is_entry e.key e.id f ≡ false) entries
+  pub boxes : AllByRecursion (λ (f : Entry). IsSome (entry_box f)) entries
 
--- the part is of a node with enough rows: it has the first key and id and the summary of what is under it
-pub record IsPartOf {S : Type 0} (joined : S → S → S) (entry_box : Entry → Option S) (keys : S → ℕ × ℕ) (pages : ℕ → List ℕ) (l : ℕ) (part : Part S) : Type 0 where
-  pub nodes : AreNodesUnder (HasCorners joined entry_box keys) pages l part.page
-  pub filled : least_rows l ≤ rows_in (node_in (pages part.page))
-  pub first : HasFirst part.key part.id (list_under pages l part.page)
-  pub is : summary_of joined entry_box (list_under pages l part.page) ≡ Some part.summary
+-- the page and those under it are the nodes of a tree into which the entry may be put
+pub record CanTake {S : Type 0} (are_corners : List Entry → ℕ → ℕ → Type 0) (entry_box : Entry → Option S) (in_pool : ℕ → Bool) (e : Entry) (pages : ℕ → List ℕ) (free : List ℕ) (l n : ℕ) : Type 0 where
+  pub nodes : AreNodesUnder are_corners pages l n
+  pub own : AreOwn in_pool free (pages_under pages l n)
+  pub entries : HaveNot entry_box e (list_under pages l n)
 
 -- the node has the entry under it
 pub record IsGrown {S : Type 0} (joined : S → S → S) (entry_box : Entry → Option S) (keys : S → ℕ × ℕ) (e : Entry) (old new : ℕ → List ℕ) (old_free new_free : List ℕ) (l n : ℕ) : Type 0 where
-  pub grows : GrowsTo e old new old_free new_free (pages_under old l n) (pages_under new l n) (list_under old l n) (list_under new l n)
+  pub grows : Changes (IsPlaced e) old new old_free new_free (pages_under old l n) (pages_under new l n) (list_under old l n) (list_under new l n)
   pub nodes : AreNodesUnder (HasCorners joined entry_box keys) new l n
   pub rows : rows_in (node_in (old n)) ≤ rows_in (node_in (new n))
 
 -- two nodes have the entries of the node and the new one
 pub record IsSplit {S : Type 0} (joined : S → S → S) (entry_box : Entry → Option S) (keys : S → ℕ × ℕ) (e : Entry) (old new : ℕ → List ℕ) (old_free new_free : List ℕ) (l n : ℕ)
     (left right : Part S) : Type 0 where
-  pub grows : GrowsTo e old new old_free new_free (pages_under old l n) (pages_under new l left.page ++ pages_under new l right.page)
+  pub grows : Changes (IsPlaced e) old new old_free new_free (pages_under old l n) (pages_under new l left.page ++ pages_under new l right.page)
       (list_under old l n) (list_under new l left.page ++ list_under new l right.page)
   pub first : IsPartOf joined entry_box keys new l left
   pub second : IsPartOf joined entry_box keys new l right

@@ -4,12 +4,13 @@ ghost use Rattle.page_laws.specs.Errors.{CountsTreeFault, IsNotDamaged};
 ghost use Rattle.page_laws.specs.Pages.{is_live};
 ghost use Rattle.page_laws.specs.declared.pages.TheConstants.{CHANGE_LIMIT};
 ghost use Rattle.bptree_node.specs.Summaries.{HasCorners};
-ghost use Rattle.bptree_insert.specs.NodesAt.{CanTake};
-ghost use Rattle.bptree_insert.specs.Steps.{PagesGrow, NamesTested, AreMade, Grows};
+ghost use Rattle.bptree_insert.specs.Steps.{CanTake, AreMade, Grows};
+ghost use Rattle.bptree_edit.specs.Steps.{PagesGrow, NamesTested};
 
-use crate::grown::{Boxed, Grown, damaged};
-use crate::inner::{branches_of, child_for, store_inner, update};
+use crate::grown::{Boxed, Grown};
+use crate::inner::{store_inner, update};
 use crate::leaf::insert_in_leaf;
+use bptree_edit::{branches_of, child_for, damaged};
 use bptree_node::{Boxes, Summary};
 use page_laws::{PAGE_SIZE, Pages, Rule, TreeError};
 
@@ -43,7 +44,7 @@ pub(crate) fn insert_below<P: Pages, S: Summary, F: Boxes<S>>(
         return insert_in_leaf(pages, n, &page, e, boxes);
     }
     let mut branches = branches_of(&page, n)?;
-    let at = child_for(&branches, &e.entry);
+    let at = child_for(&branches, e.entry.key, e.entry.id);
     let child = branches[at].child;
     if !pages.is_live(child) {
         return Err(damaged(n, Rule::Page));

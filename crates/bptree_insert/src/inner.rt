@@ -10,53 +10,15 @@ ghost use Rattle.bptree_node.specs.declared.layout.TheConstants.{MOST_BRANCHES};
 ghost use Rattle.bptree_node.specs.declared.rows.Branch.{Branch};
 ghost use Rattle.bptree_node.specs.Nodes.{Inner, node_in};
 ghost use Rattle.bptree_node.specs.Summaries.{summary_of};
-ghost use Rattle.bptree_insert.specs.Rows.{before_branch};
+ghost use Rattle.bptree_edit.specs.Parts.{before_branch, branch_of, IsInnerPart};
 ghost use Rattle.bptree_insert.specs.Steps as words;
-ghost use Rattle.bptree_insert.specs.Steps.{PagesGrow, IsWritten, IsJoined, NamesTested, AreMade, IsInnerPart, StoresInner, Regrows, IsWidened};
+ghost use Rattle.bptree_edit.specs.Steps.{PagesGrow, IsWritten, NamesTested};
+ghost use Rattle.bptree_insert.specs.Steps.{IsJoined, AreMade, StoresInner, Regrows, IsWidened};
 
-use crate::grown::{Boxed, Grown, Part, damaged, goes_before};
-use arrayvec::ArrayVec;
-use bptree_node::{
-    Boxes, Branch, Entry, LEAST_BRANCHES, MOST_BRANCHES, Summary, read_node, write_inner,
-};
-use page_laws::{PAGE_SIZE, Pages, Rule, TreeError};
-
-/// The branches of an inner node, with room for one more than a node may have.
-pub(crate) type Branches = ArrayVec<Branch, 15>;
-
-/// The branches of the inner node that page `n` is.
-pub(crate) fn branches_of(page: &[u8; PAGE_SIZE], n: u32) -> Result<Branches, TreeError>
-    ensures inner { MatchResult result (λ branches. node_in page.now ≡ Some (Inner branches.items))
-        (λ e. (e ≡ tree.Damaged n rule.Node) × ((branches : List Branch) → node_in page.now ≡ Some (Inner branches) → ⊥)) }
-    ensures count { IfOk result (λ branches. (2 ≤ length branches.items) × (length branches.items ≤ MOST_BRANCHES)) }
-{
-    let node = match read_node(page) {
-        Ok(node) => node,
-        Err(_) => return Err(damaged(n, Rule::Node)),
-    };
-    if node.is_leaf() {
-        return Err(damaged(n, Rule::Node));
-    }
-    let mut branches = ArrayVec::new();
-    for i in 0..node.count() {
-        branches.push(node.branch(i));
-    }
-    Ok(branches)
-}
-
-/// Under which of one or more branches an entry's place is: the last one that doesn't go behind it, or
-/// the first.
-pub(crate) fn child_for(branches: &[Branch], e: &Entry) -> usize
-    requires { 1 ≤ length branches.now }
-    ensures place { result < length branches.now }
-    ensures before { (d : Branch) → 0 < result → before_branch e.now (slice_index_or branches.now result d) ≡ false }
-    ensures after { (d : Branch) → result + 1 < length branches.now → before_branch e.now (slice_index_or branches.now (result + 1) d) ≡ true }
-{
-    branches[1..]
-        .iter()
-        .position(|branch| goes_before(e.key, e.id, branch.key, branch.id))
-        .unwrap_or(branches.len() - 1)
-}
+use crate::grown::{Boxed, Grown};
+use bptree_edit::{Branches, Part, branch_of, damaged, goes_before, inner_part, put_inner};
+use bptree_node::{Boxes, Branch, Entry, LEAST_BRANCHES, MOST_BRANCHES, Summary};
+use page_laws::{Pages, Rule, TreeError};
 
 /// Puts into the place of a branch what an insertion made of its node. The branches are of page `n`.
 pub(crate) fn update<S: Summary, F: Boxes<S>>(
@@ -121,21 +83,6 @@ fn earlier(branch: &Branch, e: &Entry) -> (u64, u32)
     }
 }
 
-/// The branch of a node.
-fn branch_of<S: Summary, F: Boxes<S>>(part: &Part<S>, boxes: &F) -> Branch
-    requires { F.is_made boxes.now part.now.summary }
-    ensures { result ≡ words.branch_of (F.keys_of boxes.now) part.now }
-{
-    let (low, high) = boxes.as_keys(&part.summary);
-    Branch {
-        key: part.key,
-        id: part.id,
-        child: part.page,
-        low,
-        high,
-    }
-}
-
 /// Writes the inner node of 2 to 15 branches to page `n`. Of 15 the last 8 go to a page that is taken.
 pub(crate) fn store_inner<P: Pages, S: Summary, F: Boxes<S>>(
     pages: &mut P,
@@ -173,55 +120,6 @@ pub(crate) fn store_inner<P: Pages, S: Summary, F: Boxes<S>>(
     Ok(Grown::Split(left, right))
 }
 
-/// Makes page `n` the inner node of these branches, 2 to 14 of them.
-fn put_inner<P: Pages>(pages: &mut P, n: u32, branches: &[Branch])
-    requires open { IsTrue (P.is_open pages.old) }
-    requires pool { IsTrue (P.in_pool pages.old n) }
-    requires put { length (P.put_pages pages.old) < CHANGE_LIMIT }
-    requires some { 2 ≤ length branches.now }
-    requires few { length branches.now ≤ MOST_BRANCHES }
-    ensures written { IsWritten n (Inner branches.now) (P.page_at pages.old) (P.page_at pages.new) }
-    ensures free { P.free pages.new ≡ P.free pages.old }
-    ensures pages { PagesGrow P.is_known P.has P.in_pool P.free P.is_open P.put_pages P.calm 0 1 pages.old pages.new }
-    ensures faults { P.faults pages.new ≡ P.faults pages.old }
-{
-    let mut page = [0; PAGE_SIZE];
-    write_inner(branches, &mut page);
-    pages.put(n, &page);
-}
-
-/// What a branch is made from for the inner node of these branches on a page, or None if the corners
-/// of one of them are those of no box.
-fn inner_part<S: Summary, F: Boxes<S>>(branches: &[Branch], page: u32, boxes: &F) -> Option<Part<S>>
-    requires { 1 ≤ length branches.now }
-    ensures part { MatchOption result (summary_of S.joined (λ (b : Branch). F.branch_box boxes.now b.low b.high) branches.now ≡ None)
-        (IsInnerPart S.joined (F.branch_box boxes.now) page branches.now) }
-    ensures made { MatchOption result Unit (λ part. F.is_made boxes.now part.summary) }
-{
-    let first = branches[0];
-    let summary = summary_of_branches(branches, boxes)?;
-    Some(Part {
-        key: first.key,
-        id: first.id,
-        page,
-        summary,
-    })
-}
-
-/// The summary of all under one or more branches, or None if the corners of one of them are those of
-/// no box.
-fn summary_of_branches<S: Summary, F: Boxes<S>>(branches: &[Branch], boxes: &F) -> Option<S>
-    requires { 1 ≤ length branches.now }
-    ensures is { result ≡ summary_of S.joined (λ (b : Branch). F.branch_box boxes.now b.low b.high) branches.now }
-    ensures made { MatchOption result Unit (F.is_made boxes.now) }
-{
-    let mut summary = boxes.of_branch(branches[0].low, branches[0].high)?;
-    for branch in &branches[1..] {
-        summary = summary.join(&boxes.of_branch(branch.low, branch.high)?);
-    }
-    Some(summary)
-}
-
 /// Takes a page, and makes it the inner node of the branches of two nodes. It gives the page.
 pub(crate) fn join_parts<P: Pages, S: Summary, F: Boxes<S>>(
     pages: &mut P,
@@ -234,7 +132,7 @@ pub(crate) fn join_parts<P: Pages, S: Summary, F: Boxes<S>>(
     requires put { length (P.put_pages pages.old) < CHANGE_LIMIT }
     requires left { F.is_made boxes.now left.now.summary }
     requires right { F.is_made boxes.now right.now.summary }
-    ensures written { IsJoined result (Inner (words.branch_of (F.keys_of boxes.now) left.now ∷ words.branch_of (F.keys_of boxes.now) right.now ∷ []))
+    ensures written { IsJoined result (Inner (branch_of (F.keys_of boxes.now) left.now ∷ branch_of (F.keys_of boxes.now) right.now ∷ []))
         (P.page_at pages.old) (P.page_at pages.new) (P.free pages.old) (P.free pages.new) }
     ensures pages { PagesGrow P.is_known P.has P.in_pool P.free P.is_open P.put_pages P.calm 1 1 pages.old pages.new }
     ensures faults { P.faults pages.new ≡ P.faults pages.old }

@@ -11,13 +11,15 @@ ghost use Rattle.bptree_node.specs.declared.layout.TheConstants.{HEIGHT_LIMIT};
 ghost use Rattle.bptree_node.specs.declared.rows.Entry.{Entry};
 ghost use Rattle.bptree_node.specs.Summaries.{HasCorners};
 ghost use Rattle.bptree_node.specs.Trees.{IsTree, list_at, pages_at, slot_of};
-ghost use Rattle.bptree_insert.specs.Growth.{IsWith, HaveBoxes, StaysOutside, AreFreeAfter, TakesAtMost, NamesInsertRule};
-ghost use Rattle.bptree_insert.specs.Steps.{PagesGrow, IsJoined, IsRaised};
+ghost use Rattle.bptree_edit.specs.Changes.{IsWith, HaveBoxes, StaysOutside, AreFreeAfter};
+ghost use Rattle.bptree_insert.specs.Growth.{TakesAtMost, NamesInsertRule};
+ghost use Rattle.bptree_edit.specs.Steps.{PagesGrow};
+ghost use Rattle.bptree_insert.specs.Steps.{IsJoined, IsRaised};
 
 use crate::below::insert_below;
-use crate::grown::{Boxed, Grown, Part, damaged};
+use crate::grown::{Boxed, Grown};
 use crate::inner::join_parts;
-use crate::leaf::put_leaf;
+use bptree_edit::{Part, damaged, put_leaf};
 use bptree_node::{Boxes, Entry, HEIGHT_LIMIT, Summary};
 use page_laws::{Pages, Root, Rule, TreeError};
 

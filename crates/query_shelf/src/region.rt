@@ -8,6 +8,7 @@ use pivot_map::meets;
 
 /// The keys whose cells a query meets, by its distances to the pivots and the radius, and all numbers
 /// that are no keys of the curve.
+#[derive(Drop)]
 pub struct QueryRegion<'a, C: Curve> {
     /// The curve.
     pub curve: &'a C,

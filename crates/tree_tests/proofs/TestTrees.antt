@@ -11,7 +11,8 @@ use Rattle.bptree_node.specs.declared.summary.NoBox.{NoBox}
 use Rattle.bptree_node.specs.Lists.{all-front, all-back, all-append, all-weaker}
 use Rattle.bptree_node.specs.Summaries.{HasCorners}
 use Rattle.bptree_node.specs.Trees.{is_entry, slot_of, list_at, IsTree}
-use Rattle.bptree_insert.specs.Growth.{IsWith, TakesAtMost}
+use Rattle.bptree_edit.specs.Changes.{IsWith}
+use Rattle.bptree_insert.specs.Growth.{TakesAtMost}
 use Rattle.bptree_insert.specs.NoBoxLaws.{kept_box}
 
 abbrev pub no_corners : List Entry → ℕ → ℕ → Type 0

@@ -2,15 +2,15 @@ use Rattle.std.proofs.Common.{rules, ◌≡◌, ℕ, ◌+◌, ◌-◌, ◌<◌, 
 use Rattle.std.specs.Prelude.{IsTrue, true, false, Ok, ◌*◌}
 use Rattle.std.specs.List.{replace_range}
 use Rattle.std.proofs.lemmas.Bool.{false≢true}
-use Rattle.bptree_insert.specs.Rows.{before_branch}
+use Rattle.bptree_edit.specs.Parts.{before_branch}
 use Rattle.page_laws.specs.Pages.{is_live}
 use Rattle.bptree_node.specs.declared.rows.Branch.{Branch}
 use Rattle.bptree_node.specs.Summaries.{HasCorners}
-use Rattle.bptree_insert.specs.NodesAt.{times, CanTake}
-use Rattle.bptree_insert.specs.Steps.{Grows}
-use Rattle.bptree_insert.proofs.Summing.{join_of_laws}
-use Rattle.bptree_insert.proofs.Counts.{live_stays}
-use Rattle.bptree_insert.proofs.InnerSteps.{inner-there, child-can, child-live, child-box, can-moved, grows-moved, regrows-count, replaced-count, rows-boxes, node-grows}
+use Rattle.bptree_edit.specs.NodesAt.{times}
+use Rattle.bptree_insert.specs.Steps.{CanTake, Grows}
+use Rattle.bptree_edit.proofs.Summing.{join_of_laws}
+use Rattle.bptree_edit.proofs.Counts.{live_stays}
+use Rattle.bptree_insert.proofs.InnerSteps.{inner-there, child-can, child-live, child-box, can-moved, grows-moved, regrows-count, regrows-most, replaced-count, replaced-most, rows-boxes, node-grows}
 use Rattle.bptree_insert.proofs.below.+insert_below.Goals as goal
 
 pub returns-in_err-branches-clause-sound : goal.returns-in_err-branches-clause-sound
@@ -113,6 +113,19 @@ store_inner-requires-clause-some g t c =
     let two = c.in_ok-branches.ensures.count.0 in
     omega (arith, two, ap length (c.deref-3.ensures.0 ∙ new.1.0), replaced-count bs new.0 at below some)
 
+pub store_inner-requires-clause-few : goal.store_inner-requires-clause-few
+store_inner-requires-clause-few g t c =
+    let F = g.F.Boxes in
+    let B = c.args.boxes.now in
+    let blank : Branch = record { key = 0; id = 0; child = 0; low = 0; high = 0 } in
+    let bs = c.in_ok-branches.branches.items in
+    let at = c.child_for-at.result in
+    let below : at < length bs = subst (λ (zs : List Branch). at < length zs) c.deref.ensures.0 c.child_for-at.ensures.place in
+    let new = c.in_ok-update.ensures.grows blank in
+    let some = regrows-most g.S.Summary.joined (F.branch_box B) (F.keys_of B) c.args.e.now (get_or bs at blank) c.in_ok-grown.grown new.0 new.1.1 in
+    let most = c.in_ok-branches.ensures.count.1 in
+    omega (arith, most, ap length (c.deref-3.ensures.0 ∙ new.1.0), replaced-most bs new.0 at below some)
+
 pub returns-clause-grows : goal.returns-clause-grows
 returns-clause-grows g t c = λ known.
     let P = g.P.Pages in
@@ -127,10 +140,10 @@ returns-clause-grows g t c = λ known.
     let at = c.child_for-at.result in
     let below : at < length bs = subst (λ (zs : List Branch). at < length zs) c.deref.ensures.0 c.child_for-at.ensures.place in
     let new = c.in_ok-update.ensures.grows blank in
-    let late : 0 < at → before_branch c.args.e.now.entry (get_or bs at blank) ≡ false =
-    λ some. ap (λ (zs : List Branch). before_branch c.args.e.now.entry (get_or zs at blank)) (sym c.deref.ensures.0) ∙ c.child_for-at.ensures.before blank some in
-    let early : (d : Branch) → at + 1 < length bs → before_branch c.args.e.now.entry (get_or bs (at + 1) d) ≡ true =
-    λ d inside. ap (λ (zs : List Branch). before_branch c.args.e.now.entry (get_or zs (at + 1) d)) (sym c.deref.ensures.0)
+    let late : 0 < at → before_branch c.args.e.now.entry.key c.args.e.now.entry.id (get_or bs at blank) ≡ false =
+    λ some. ap (λ (zs : List Branch). before_branch c.args.e.now.entry.key c.args.e.now.entry.id (get_or zs at blank)) (sym c.deref.ensures.0) ∙ c.child_for-at.ensures.before blank some in
+    let early : (d : Branch) → at + 1 < length bs → before_branch c.args.e.now.entry.key c.args.e.now.entry.id (get_or bs (at + 1) d) ≡ true =
+    λ d inside. ap (λ (zs : List Branch). before_branch c.args.e.now.entry.key c.args.e.now.entry.id (get_or zs (at + 1) d)) (sym c.deref.ensures.0)
     ∙ c.child_for-at.ensures.after d (subst (λ (zs : List Branch). at + 1 < length zs) (sym c.deref.ensures.0) inside) in
     let grows : Grows joined (F.entry_box B) (F.keys_of B) c.args.e.now.entry (P.page_at c.args.pages.now) (P.page_at c.insert_below.new.pages) (P.free c.args.pages.now)
     (P.free c.insert_below.new.pages) (c.args.level - 1) (get_or bs at blank).child (Ok c.in_ok-grown.grown) =
@@ -158,10 +171,10 @@ returns-clause-sound g t c = λ known.
     let at = c.child_for-at.result in
     let below : at < length bs = subst (λ (zs : List Branch). at < length zs) c.deref.ensures.0 c.child_for-at.ensures.place in
     let new = c.in_ok-update.ensures.grows blank in
-    let late : 0 < at → before_branch c.args.e.now.entry (get_or bs at blank) ≡ false =
-    λ some. ap (λ (zs : List Branch). before_branch c.args.e.now.entry (get_or zs at blank)) (sym c.deref.ensures.0) ∙ c.child_for-at.ensures.before blank some in
-    let early : (d : Branch) → at + 1 < length bs → before_branch c.args.e.now.entry (get_or bs (at + 1) d) ≡ true =
-    λ d inside. ap (λ (zs : List Branch). before_branch c.args.e.now.entry (get_or zs (at + 1) d)) (sym c.deref.ensures.0)
+    let late : 0 < at → before_branch c.args.e.now.entry.key c.args.e.now.entry.id (get_or bs at blank) ≡ false =
+    λ some. ap (λ (zs : List Branch). before_branch c.args.e.now.entry.key c.args.e.now.entry.id (get_or zs at blank)) (sym c.deref.ensures.0) ∙ c.child_for-at.ensures.before blank some in
+    let early : (d : Branch) → at + 1 < length bs → before_branch c.args.e.now.entry.key c.args.e.now.entry.id (get_or bs (at + 1) d) ≡ true =
+    λ d inside. ap (λ (zs : List Branch). before_branch c.args.e.now.entry.key c.args.e.now.entry.id (get_or zs (at + 1) d)) (sym c.deref.ensures.0)
     ∙ c.child_for-at.ensures.after d (subst (λ (zs : List Branch). at + 1 < length zs) (sym c.deref.ensures.0) inside) in
     let grows : Grows joined (F.entry_box B) (F.keys_of B) c.args.e.now.entry (P.page_at c.args.pages.now) (P.page_at c.insert_below.new.pages) (P.free c.args.pages.now)
     (P.free c.insert_below.new.pages) (c.args.level - 1) (get_or bs at blank).child (Ok c.in_ok-grown.grown) =

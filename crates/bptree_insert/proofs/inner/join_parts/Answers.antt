@@ -2,8 +2,9 @@ use Rattle.std.proofs.Common.{◌≡◌, ℕ, List, [], ◌∷◌, ap, sym, subs
 use Rattle.std.specs.Prelude.{Bool, IsTrue}
 use Rattle.bptree_node.specs.declared.rows.Branch.{Branch}
 use Rattle.bptree_node.specs.Nodes.{Inner}
-use Rattle.bptree_insert.specs.Steps.{IsWritten, branch_of}
-use Rattle.bptree_insert.proofs.Counts.{taken_pool}
+use Rattle.bptree_edit.specs.Steps.{IsWritten}
+use Rattle.bptree_edit.specs.Parts.{branch_of}
+use Rattle.bptree_edit.proofs.Counts.{taken_pool}
 use Rattle.bptree_insert.proofs.PageSteps.{grow-grow, taken-grow, written-taken}
 use Rattle.bptree_insert.proofs.inner.join_parts.Goals as goal
 

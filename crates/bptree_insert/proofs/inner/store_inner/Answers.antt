@@ -3,10 +3,11 @@ use Rattle.std.specs.Prelude.{Bool, IsTrue, IsSome}
 use Rattle.std.specs.List.{AllByRecursion}
 use Rattle.bptree_node.specs.declared.rows.Branch.{Branch}
 use Rattle.bptree_node.specs.Nodes.{Inner}
-use Rattle.bptree_insert.specs.Steps.{IsInnerPart, IsWritten}
-use Rattle.bptree_insert.proofs.Summing.{summary-some}
-use Rattle.bptree_insert.proofs.Counts.{taken_pool}
-use Rattle.bptree_insert.proofs.Lists.{all-drop}
+use Rattle.bptree_edit.specs.Parts.{IsInnerPart}
+use Rattle.bptree_edit.specs.Steps.{IsWritten}
+use Rattle.bptree_edit.proofs.Summing.{summary-some}
+use Rattle.bptree_edit.proofs.Counts.{taken_pool}
+use Rattle.bptree_edit.proofs.Lists.{all-drop}
 use Rattle.bptree_insert.proofs.PageSteps.{grow-grow, taken-grow, written-two}
 use Rattle.bptree_insert.proofs.inner.store_inner.Goals as goal
 

@@ -1,9 +1,9 @@
-use Rattle.std.proofs.Common.{◌≡◌, List, [], ◌∷◌, sym, ap, subst, ◌∙◌, refl}
-use Rattle.std.proofs.Common.{get_or}
+use Rattle.std.proofs.Common.{◌≡◌, List, [], ◌∷◌, sym, ap, subst, ◌∙◌, refl, get_or}
 use Rattle.std.proofs.lemmas.List.{get_or_default}
 use Rattle.bptree_node.specs.declared.rows.Branch.{Branch}
-use Rattle.bptree_insert.specs.Steps.{Regrows, IsWidened, branch_of}
-use Rattle.bptree_insert.proofs.Lists.{item_written, item_inserted}
+use Rattle.bptree_insert.specs.Steps.{Regrows, IsWidened}
+use Rattle.bptree_edit.specs.Parts.{branch_of}
+use Rattle.bptree_edit.proofs.Lists.{item_written, item_inserted}
 use Rattle.bptree_insert.proofs.inner.update.Goals as goal
 
 pub returns-in-Some : goal.returns-in-Some

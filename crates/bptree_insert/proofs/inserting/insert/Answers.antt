@@ -7,9 +7,9 @@ use Rattle.bptree_insert.specs.declared.grown.Grown.{Grown}
 use Rattle.bptree_insert.specs.declared.grown.Grown.TheVariants.{Whole, Split}
 use Rattle.bptree_node.specs.Trees.{IsTree, list_at, pages_at}
 use Rattle.page_laws.specs.Pages.{is_live}
-use Rattle.bptree_insert.specs.Growth.{IsWith, StaysOutside, AreFreeAfter}
+use Rattle.bptree_edit.specs.Changes.{IsWith, StaysOutside, AreFreeAfter}
 use Rattle.bptree_insert.specs.Steps.{Grows}
-use Rattle.bptree_insert.proofs.Summing.{join_of_laws}
+use Rattle.bptree_edit.proofs.Summing.{join_of_laws}
 use Rattle.bptree_insert.proofs.PageSteps.{grow-grow}
 use Rattle.bptree_insert.proofs.RootSteps.{takes-most}
 use Rattle.bptree_insert.proofs.Inserted.{root-can, root-live_of, whole-inserted, raised-inserted, never-raised, plant-inserted, match-ok, match-never}

@@ -1,7 +1,7 @@
 use Rattle.std.proofs.Common.{ℕ, [], ◌∷◌, sym, subst, arith}
 use Rattle.std.specs.Prelude.{Bool, IsTrue}
 use Rattle.bptree_node.specs.Nodes.{Leaf}
-use Rattle.bptree_insert.proofs.Counts.{taken_pool}
+use Rattle.bptree_edit.proofs.Counts.{taken_pool}
 use Rattle.bptree_insert.proofs.PageSteps.{grow-grow, taken-grow, written-taken}
 use Rattle.bptree_insert.proofs.inserting.plant.Goals as goal
 

@@ -1,6 +1,6 @@
 use Rattle.bptree_node.specs.declared.rows.Branch.{Branch}
-use Rattle.bptree_insert.proofs.Summing.{join_of_laws, summary-more, summary-ends}
-use Rattle.bptree_insert.proofs.inner.summary_of_branches.Goals as goal
+use Rattle.bptree_edit.proofs.Summing.{join_of_laws, summary-more, summary-ends}
+use Rattle.bptree_edit.proofs.inner.summary_of_branches.Goals as goal
 
 pub returns-in_err-of_branch-clause-is : goal.returns-in_err-of_branch-clause-is
 returns-in_err-of_branch-clause-is g c =

@@ -1,11 +1,11 @@
 -- Nodes by their pages and levels, and the pages that trees have.
-use Rattle.std.specs.Prelude.{◌≡◌, ℕ, zero, suc, ◌+◌, ◌≤◌, ◌<◌, ◌==◌, Bool, false, IsTrue, IsSome, List, count_by, Option, Some, None}
+use Rattle.std.specs.Prelude.{◌≡◌, ℕ, zero, suc, ◌+◌, ◌≤◌, ◌<◌, ◌==◌, Bool, IsTrue, List, count_by, Option, Some, None}
 use Rattle.std.specs.List.{flat_map, AllByRecursion}
 use Rattle.bptree_node.specs.declared.layout.TheConstants.{LEAST_ENTRIES, LEAST_BRANCHES}
 use Rattle.bptree_node.specs.declared.rows.Entry.{Entry}
 use Rattle.bptree_node.specs.declared.rows.Branch.{Branch}
 use Rattle.bptree_node.specs.Nodes.{Node, Leaf, Inner, node_in, row_count}
-use Rattle.bptree_node.specs.Trees.{tree_at, list_of, pages_of, is_entry, IsRising, HasFirst}
+use Rattle.bptree_node.specs.Trees.{tree_at, list_of, pages_of, HasFirst}
 
 -- how often a page is among these
 unfoldable pub times : ℕ → List ℕ → ℕ
@@ -55,15 +55,3 @@ AreChildren are_corners pages l branches = AllByRecursion (λ (b : Branch). IsBr
 pub record AreOwn (in_pool : ℕ → Bool) (free used : List ℕ) : Type 0 where
   pub once : (n : ℕ) → times n free + times n used ≤ 1
   pub pool : (n : ℕ) → 0 < times n free + times n used → IsTrue (in_pool n)
-
--- the entries rise and have summaries, and the entry isn't one of them
-pub record HaveNot {S : Type 0} (entry_box : Entry → Option S) (e : Entry) (entries : List Entry) : Type 0 where
-  pub rising : IsRising entries
-  pub absent : AllByRecursion (λ (f : Entry). is_entry e.key e.id f ≡ false) entries
-  pub boxes : AllByRecursion (λ (f : Entry). IsSome (entry_box f)) entries
-
--- the page and those under it are the nodes of a tree into which the entry may be put
-pub record CanTake {S : Type 0} (are_corners : List Entry → ℕ → ℕ → Type 0) (entry_box : Entry → Option S) (in_pool : ℕ → Bool) (e : Entry) (pages : ℕ → List ℕ) (free : List ℕ) (l n : ℕ) : Type 0 where
-  pub nodes : AreNodesUnder are_corners pages l n
-  pub own : AreOwn in_pool free (pages_under pages l n)
-  pub entries : HaveNot entry_box e (list_under pages l n)

@@ -1,7 +1,7 @@
 use Rattle.std.proofs.Common.{◌≡◌, ◌+◌, take}
 use Rattle.std.specs.Prelude.{Some}
 use Rattle.bptree_node.specs.Summaries.{summary_of}
-use Rattle.bptree_insert.proofs.leaf.summary_of_entries.Given as goal
+use Rattle.bptree_edit.proofs.leaf.summary_of_entries.Given as goal
 
 abbrev pub invariant-loop-entry : goal.invariant-loop-entry
 invariant-loop-entry g l = record {

@@ -9,7 +9,7 @@ use Rattle.std.proofs.lemmas.List.Sums.{sum_by-cons, sum_by-append}
 use Rattle.std.proofs.lemmas.List.Sorted.{sum_by-IsPermutation}
 use Rattle.page_laws.specs.Pages.{is_among, is_live, AreFree}
 use Rattle.page_laws.specs.FreeLaws.{among_all}
-use Rattle.bptree_insert.specs.NodesAt.{times, AreOwn}
+use Rattle.bptree_edit.specs.NodesAt.{times, AreOwn}
 
 -- one if two numbers are the same
 abbrev pub one_if : ℕ → ℕ → ℕ
@@ -129,7 +129,7 @@ taken_other in_pool old new n m same live is =
 pub live_pool : (in_pool : ℕ → Bool) (free : List ℕ) (n : ℕ) → IsTrue (is_live in_pool free n) → IsTrue (in_pool n)
 live_pool in_pool free n live = (and_parts (in_pool n) (not (is_among n free)) live).0
 
-both_true : (a b : Bool) → a ≡ true → b ≡ true → (a && b) ≡ true
+pub both_true : (a b : Bool) → a ≡ true → b ≡ true → (a && b) ≡ true
 both_true a b one two = grind (arith, nat_tests, one, two)
 
 -- a page stays live while pages are taken

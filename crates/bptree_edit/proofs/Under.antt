@@ -10,8 +10,8 @@ use Rattle.bptree_node.specs.Nodes.{Node, Leaf, Inner, node_in}
 use Rattle.bptree_node.specs.Trees.{Tree, Limb, tree_at, list_of, pages_of, node_entries, node_branches}
 use Rattle.bptree_node.specs.TreeLaws.{limb_at, tree-stays}
 use Rattle.bptree_node.specs.Lists.{all-front, all-back, all-append}
-use Rattle.bptree_insert.specs.NodesAt.{times, list_under, pages_under, list_under_all, pages_under_all, IsBranchOf, AreNodesUnder, AreChildren}
-use Rattle.bptree_insert.proofs.Counts.{times-none, times-cons, times-append, times-all, one_same}
+use Rattle.bptree_edit.specs.NodesAt.{times, list_under, pages_under, list_under_all, pages_under_all, IsBranchOf, AreNodesUnder, AreChildren}
+use Rattle.bptree_edit.proofs.Counts.{times-none, times-cons, times-append, times-all, one_same}
 
 -- ---- rows of a node
 

@@ -1,5 +1,5 @@
-use Rattle.bptree_insert.proofs.Summing.{join_of_laws, summary-more, summary-ends}
-use Rattle.bptree_insert.proofs.leaf.summary_of_entries.Goals as goal
+use Rattle.bptree_edit.proofs.Summing.{join_of_laws, summary-more, summary-ends}
+use Rattle.bptree_edit.proofs.leaf.summary_of_entries.Goals as goal
 
 pub returns-in_err-of_entry-clause-is : goal.returns-in_err-of_entry-clause-is
 returns-in_err-of_entry-clause-is g c =

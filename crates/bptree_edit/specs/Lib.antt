@@ -1,0 +1,4 @@
+pub mod Changes
+pub mod NodesAt
+pub mod Parts
+pub mod Steps
