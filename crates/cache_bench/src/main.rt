@@ -73,7 +73,7 @@ fn numbered_file(alloc: Global, total: u32) -> anyhow::Result<Vec<u8>>
 {
     let mut file = Vec::new(alloc);
     for n in 0..total {
-        let byte = if n < FIRST { 0 } else { n as u8 };
+        let byte = if n < FIRST { 0 } else { (n % 256) as u8 };
         file.resize(PAGE_SIZE * (n as usize + 1), byte)?;
     }
     Ok(file)
