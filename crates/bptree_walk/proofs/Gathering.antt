@@ -1,5 +1,5 @@
 -- The entries that a walk has found so far.
-use Rattle.std.proofs.Common.{◌≡◌, ℕ, zero, suc, ◌-◌, ◌≤◌, ◌<◌, Bool, List, [], ◌∷◌, ◌++◌, length, refl, sym, ap, ap₂, subst, ◌∙◌, arith}
+use Rattle.std.proofs.Common.{◌≡◌, ℕ, zero, suc, ◌-◌, ◌≤◌, Bool, List, [], ◌++◌, length, refl, sym, ap, ap₂, subst, ◌∙◌, arith}
 use Rattle.std.specs.Prelude.{filter, sum_by, IsTrue}
 use Rattle.std.specs.List.{flat_map}
 use Rattle.std.proofs.lemmas.List.{append-nil}
@@ -15,7 +15,7 @@ use Rattle.bptree_node.specs.Trees.{tree_at, list_at, visited, visited_at, IsBPl
 use Rattle.bptree_walk.specs.declared.ahead.Ahead.{Ahead}
 use Rattle.bptree_walk.specs.Courses.{Course, begun, walk_left, visits_left, most_left, IsSoundCourse, MOST_IN_TREE}
 use Rattle.bptree_walk.specs.Steps.{GoesOn, CountsFetches}
-use Rattle.bptree_walk.proofs.Passing.{Passes, passes_none, passes_on, goes_further}
+use Rattle.bptree_walk.proofs.Passing.{Passes, given_on, given_less, passes_none, passes_on, goes_further}
 use Rattle.bptree_walk.proofs.Counts.{counted_on}
 use Rattle.bptree_walk.proofs.Stacks.{begun_most}
 use Rattle.bptree_walk.proofs.Staying.{Stay, live_of, known_on, as_before}
@@ -64,14 +64,22 @@ module _ {P : Type 0} (G : Ghosts P) (meets : ℕ → ℕ → Bool) (has : ℕ �
       subst (λ (x : Course). Gathers p p root found x) (sym is) (record { given = []; passes = passes_none G meets has same p (begun root); are = none })
 
   module _ (start now : P) (root : Root) (found : List Entry) (c : Course) (so : Gathers start now root found c) where
-    -- one more entry
-    pub gathers_on : ((a b d : P) → G.calm a b → G.calm b d → G.calm a d) → (next : P) (e : Entry) (more : List Entry) (new : Course)
-        → (IsTrue (G.is_known now) → GoesOn (G.page_at now) (live_of G now) meets has (e ∷ []) c new) → most_left new < most_left c
-        → CountsFetches c new (G.fetches now) (G.fetches next) → Stay G now next → G.faults now ≤ G.faults next → more ≡ found ++ chosen (e ∷ []) → Gathers start next root more new
-    gathers_on chains next e more new goes limit counts stay faults is = record {
-      given = so.given ++ e ∷ [];
-      passes = passes_on G meets has start now so.given (begun root) c so.passes chains next (e ∷ []) new goes (omega (arith, limit)) counts stay faults;
-      are = is ∙ ap (λ (es : List Entry). es ++ chosen (e ∷ [])) so.are ∙ sym (filter-append (λ (f : Entry). has f.key) so.given (e ∷ []));
+    -- one more node was visited, and all entries of its leaf were added
+    pub gathers_on : ((a b d : P) → G.calm a b → G.calm b d → G.calm a d) → (next : P) (mid new : Course) (more : List Entry)
+        → (IsTrue (G.is_known now) → GoesOn (G.page_at now) (live_of G now) meets has [] c mid) → most_left mid ≤ most_left c
+        → CountsFetches c mid (G.fetches now) (G.fetches next) → Stay G now next → G.faults now ≤ G.faults next
+        → new.entries ≡ [] → new.ahead ≡ mid.ahead → new.fetched ≡ mid.fetched → more ≡ found ++ chosen mid.entries → Gathers start next root more new
+    gathers_on chains next mid new more goes limit counts stay faults none ahead fetched is = record {
+      given = so.given ++ mid.entries;
+      passes = passes_on G meets has start now so.given (begun root) c so.passes chains next mid.entries new
+          (λ known.
+          goes_further (G.page_at now) (live_of G now) meets has c mid [] mid.entries new (goes known) (given_on mid new none ahead fetched (G.page_at now) (live_of G now) meets has))
+          (omega (arith, limit, given_less mid new none ahead fetched))
+          (record {
+            least = subst (λ (n : ℕ). c.fetched ≤ n) (sym fetched) counts.least;
+            fetches = subst (λ (n : ℕ). G.fetches next ≡ count_after (G.fetches now) (n - c.fetched)) (sym fetched) counts.fetches;
+          }) stay faults;
+      are = is ∙ ap (λ (es : List Entry). es ++ chosen mid.entries) so.are ∙ sym (filter-append (λ (f : Entry). has f.key) so.given mid.entries);
     }
 
     -- there are few of them

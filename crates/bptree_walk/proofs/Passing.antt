@@ -46,6 +46,22 @@ module _ (e : Entry) (old new : Course) (entries : old.entries ≡ e ∷ new.ent
       let two : most_left (course new.entries old.ahead old.fetched) ≡ most_left new = ap most_left new_is in
       omega (arith, one, two)
 
+-- ---- all that are left of a leaf are given
+
+module _ (old new : Course) (none : new.entries ≡ []) (ahead : new.ahead ≡ old.ahead) (fetched : new.fetched ≡ old.fetched) where
+  given_is : course [] old.ahead old.fetched ≡ new
+  given_is = ap (λ (es : List Entry). course es old.ahead old.fetched) (sym none) ∙ ap₂ (λ (nodes : List Ahead) (n : ℕ). course new.entries nodes n) (sym ahead) (sym fetched)
+
+  pub given_on : (pages : ℕ → List ℕ) (live : ℕ → Bool) (meets : ℕ → ℕ → Bool) (has : ℕ → Bool) → GoesOn pages live meets has old.entries old new
+  given_on pages live meets has =
+      subst (λ (x : Course). GoesOn pages live meets has old.entries old x) given_is
+      (record { list = refl; nodes = refl; sound = λ sound. sound; part = λ root part. part; alive = λ alive. alive })
+
+  pub given_less : length old.entries + most_left new ≤ most_left old
+  given_less =
+      let two : most_left (course [] old.ahead old.fetched) ≡ most_left new = ap most_left given_is in
+      omega (arith, two)
+
 -- none was left
 pub untaken_same : (old new : Course) → old.entries ≡ [] → new.entries ≡ [] → new.ahead ≡ old.ahead → new.fetched ≡ old.fetched → new ≡ old
 untaken_same old new none empty ahead fetched =

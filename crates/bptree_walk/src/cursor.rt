@@ -1,5 +1,5 @@
 //! All entries in order, one at a time.
-ghost use Rattle.std.specs.Prelude.{◌≡◌, ◌-◌, ◌≤◌, [], ℕ, Bool, IsTrue, IsOk, IfOk, OnOk, List, length, option_to_list};
+ghost use Rattle.std.specs.Prelude.{◌≡◌, ◌++◌, ◌-◌, ◌≤◌, [], ℕ, Bool, IsTrue, IsOk, IfOk, OnOk, List, filter, length, option_to_list};
 ghost use Rattle.page_laws.specs.Calls.{PagesStay};
 ghost use Rattle.page_laws.specs.Errors.{CountsTreeFault, IsNotDamaged};
 ghost use Rattle.page_laws.specs.Pages.{is_live, count_after};
@@ -13,6 +13,7 @@ ghost use Rattle.bptree_walk.specs.Damage.{NamesWalkRule, IsDamageOf};
 ghost use Rattle.bptree_walk.specs.declared.visit.TheConstants.{AHEAD_LIMIT};
 ghost use Rattle.bptree_walk.specs.Steps.{Steps, CountsFetches, VisitsOne, IsOver};
 
+use crate::Entries;
 use crate::ahead::Ahead;
 use crate::everything::Everything;
 use crate::leaf::LeafReader;
@@ -180,8 +181,24 @@ impl Cursor {
         self.leaf.next()
     }
 
+    /// Adds what is left of the leaf that the cursor is in, as far as the region has it, to what was found.
+    pub(crate) fn give_leaf<G: Region>(
+        &mut self,
+        region: &G,
+        found: &mut Entries,
+    ) -> Result<(), Memory>
+        ensures found { OnOk result (found.new ≡ found.old ++ filter (λ (e : Entry). G.has_key region.now e.key) self.old.entries) }
+        ensures entries { OnOk result (self.new.entries ≡ []) }
+        ensures ahead { self.new.ahead ≡ self.old.ahead }
+        ensures fetched { self.new.fetched ≡ self.old.fetched }
+    {
+        self.leaf.gather(region, found)?;
+        self.leaf.clear();
+        Ok(())
+    }
+
     /// Visits the next node, or answers that none is ahead.
-    fn visit_next<P: Pages, G: Region>(
+    pub(crate) fn visit_next<P: Pages, G: Region>(
         &mut self,
         pages: &mut P,
         region: &G,

@@ -1,19 +1,24 @@
 //! The entries of a leaf, read where they stand.
-ghost use Rattle.std.specs.Prelude.{◌≡◌, ◌<◌, [], IsTrue, OnOk, IfErr};
+ghost use Rattle.std.specs.Prelude.{◌≡◌, ◌<◌, ◌≤◌, ◌++◌, [], IsTrue, OnOk, IfErr, drop, filter, length, take};
 ghost use Rattle.smallvec.specs.SmallVec.{HasRoomFor};
 ghost use Rattle.page_laws.specs.Calls.{PagesStay};
 ghost use Rattle.page_laws.specs.Errors.{CountsTreeFault};
 ghost use Rattle.page_laws.specs.Pages.{is_live, risen};
 ghost use Rattle.bptree_node.specs.declared.layout.TheConstants.{MOST_BRANCHES};
+ghost use Rattle.bptree_node.specs.declared.rows.Entry.{Entry};
+ghost use Rattle.bptree_node.specs.Nodes.{node_in};
+ghost use Rattle.bptree_node.specs.Trees.{node_entries};
 ghost use Rattle.bptree_walk.specs.Courses.{TakesFirst};
 ghost use Rattle.bptree_walk.specs.Damage.{NamesWalkRule};
 ghost use Rattle.bptree_walk.specs.Visits.{IsVisited, IsVisitCause, GoesDeeper};
 
+use crate::Entries;
 use crate::ahead::Ahead;
 use crate::visit::{AHEAD_LIMIT, open_node};
 use bptree_node::{Entry, Region, leaf_entry};
 use page_laws::{PAGE_SIZE, Pages, TreeError};
 use smallvec::SmallVec;
+use spb_edge::Memory;
 use std::marker::Model;
 
 /// The entries of a leaf from a place on, read where they stand on its page. Contracts see the list of
@@ -92,10 +97,36 @@ impl LeafReader {
         Ok(())
     }
 
+    /// Adds those whose keys the region has to those that were found.
+    pub(crate) fn gather<G: Region>(&self, region: &G, found: &mut Entries) -> Result<(), Memory>
+        ensures { OnOk result (found.new ≡ found.old ++ filter (λ (e : Entry). G.has_key region.now e.key) self.now) }
+    {
+        gather_between(&self.page, self.at, self.count, region, found)
+    }
+
     /// Leaves none.
     pub(crate) fn clear(&mut self)
         ensures { self.new ≡ [] }
     {
         self.at = self.count;
     }
+}
+
+/// Adds the entries of a leaf from a place on and below another one, as far as the region has their keys,
+/// to those that were found.
+fn gather_between<G: Region>(
+    page: &[u8; PAGE_SIZE],
+    at: usize,
+    end: usize,
+    region: &G,
+    found: &mut Entries,
+) -> Result<(), Memory>
+    requires order { at ≤ end }
+    requires there { end ≤ length (node_entries (node_in page.now)) }
+    ensures { OnOk result (found.new ≡ found.old ++ filter (λ (e : Entry). G.has_key region.now e.key) (drop at (take end (node_entries (node_in page.now))))) }
+{
+    for i in at..end {
+        found.keep(region, leaf_entry(page, i))?;
+    }
+    Ok(())
 }

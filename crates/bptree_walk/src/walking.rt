@@ -42,8 +42,8 @@ pub fn walk<P: Pages, G: Region>(
     let mut found = Entries::new(alloc);
     let mut cursor = Cursor::empty(alloc);
     cursor.begin(root);
-    while let Some(entry) = cursor.next_in(pages, region)? {
-        found.keep(region, entry)?;
+    while cursor.visit_next(pages, region)? {
+        cursor.give_leaf(region, &mut found)?;
     }
     Ok(found)
 }

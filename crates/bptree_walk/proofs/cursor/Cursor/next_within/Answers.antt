@@ -1,9 +1,9 @@
-use Rattle.std.proofs.Common.{rules, ◌≡◌, ◌<◌, [], ◌∷◌, Option, Some, None, Ok, option_to_list, sym, subst}
+use Rattle.std.proofs.Common.{rules, Option, Some, None, Ok, option_to_list, sym, subst}
 use Rattle.page_laws.specs.Errors.{TellsNoDamage}
 use Rattle.bptree_node.specs.declared.rows.Entry.{Entry}
 use Rattle.bptree_walk.specs.Courses.{Falls, most_left}
 use Rattle.bptree_walk.specs.Damage.{TellsDamage}
-use Rattle.bptree_walk.specs.Steps.{GoesOn, BreaksOff, IsOver}
+use Rattle.bptree_walk.specs.Steps.{GoesOn, IsOver}
 use Rattle.bptree_walk.proofs.Staying.{live_of}
 use Rattle.bptree_walk.proofs.Within.{IsWithin, skips_none, skips_on, gives_one, gives_none, gives_off}
 use Rattle.bptree_walk.proofs.cursor.Cursor.next_within.Given as given
