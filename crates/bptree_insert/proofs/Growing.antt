@@ -1,26 +1,24 @@
 -- An entry put under a branch, under a node's branches, and under the node.
-use Rattle.std.proofs.Common.{◌≡◌, ℕ, ◌+◌, ◌≤◌, List, [], ◌∷◌, ◌++◌, refl, sym, ap, ap₂, subst, ◌∙◌, arith, append-nil}
-use Rattle.std.specs.Prelude.{IsSome, Option, Some, None, Ok}
-use Rattle.std.specs.List.{AllByRecursion}
+use Rattle.std.proofs.Common.{◌≡◌, ℕ, List, [], ◌∷◌, ◌++◌, sym, ap, ap₂, subst, ◌∙◌, arith}
+use Rattle.std.specs.Prelude.{Option, Some, Ok}
 use Rattle.bptree_node.specs.declared.rows.Entry.{Entry}
 use Rattle.bptree_node.specs.declared.rows.Branch.{Branch}
 use Rattle.bptree_node.specs.Summaries.{HasCorners, summary_of}
 use Rattle.bptree_node.specs.Trees.{HasFirst}
-use Rattle.bptree_node.specs.EntryLaws.{AreBefore, AreBehind}
 use Rattle.bptree_insert.specs.declared.grown.Boxed.{Boxed}
 use Rattle.bptree_edit.specs.declared.part.Part.{Part}
 use Rattle.bptree_insert.specs.declared.grown.Grown.{Grown}
-use Rattle.bptree_insert.specs.declared.grown.Grown.TheVariants.{Whole, Split}
+use Rattle.bptree_insert.specs.declared.grown.Grown.TheVariants.{Same, Whole, Split}
 use Rattle.bptree_edit.specs.Changes.{HaveChanged}
 use Rattle.bptree_edit.proofs.Branches.{box-of, single_list, single_times, part_branch}
 use Rattle.bptree_insert.specs.Rows.{IsPlaced}
-use Rattle.bptree_edit.specs.NodesAt.{times, list_under, pages_under, list_under_all, pages_under_all, IsBranchOf, AreChildren}
-use Rattle.bptree_edit.specs.Parts.{branch_of, IsPartOf}
-use Rattle.bptree_insert.specs.Steps.{widened_by, IsWidened, Regrows, IsGrown, IsSplit, Grows}
-use Rattle.bptree_edit.proofs.Summing.{AreJoined, joined_parts, summary-append, summary-with, summary-made}
+use Rattle.bptree_edit.specs.NodesAt.{times, list_under, pages_under, list_under_all, pages_under_all, IsBranchOf}
+use Rattle.bptree_edit.specs.Parts.{branch_of}
+use Rattle.bptree_insert.specs.Steps.{widened_by, IsWidened, Regrows, IsGrown, IsSameAbove, IsSplit, Grows}
+use Rattle.bptree_edit.proofs.Summing.{AreJoined, summary-with}
 use Rattle.bptree_edit.proofs.Counts.{times-append}
-use Rattle.bptree_edit.proofs.Under.{AreKept, list_all-cons, list_all-append, list_all-none, times_all-cons, times_all-none, times_all-append, list_all-kept, times_all-kept, all-kept, children-append, children-first, children-others, children-cons, children-none}
-use Rattle.bptree_insert.proofs.Placing.{placed-within, placed-first}
+use Rattle.bptree_edit.proofs.Under.{list_all-cons, times_all-cons, children-cons, children-none}
+use Rattle.bptree_insert.proofs.Placing.{placed-first}
 
 -- some branches stand for others: the entry is under them
 abbrev pub HaveGrown : (List Entry → ℕ → ℕ → Type 0) → Entry → (old new : ℕ → List ℕ) → (old_free new_free : List ℕ) → ℕ → (were are : List Branch) → Type 0
@@ -69,6 +67,25 @@ module _ {S : Type 0} (joined : S → S → S) (entry_box : Entry → Option S) 
           children = children-cons (HasCorners joined entry_box keys) new l there [] (widened wide is was grown, grown.nodes) (children-none (HasCorners joined entry_box keys) new l);
         })
 
+    -- the branch serves as it is
+    pub grown-same : IsBranchOf (HasCorners joined entry_box keys) old l b → IsSameAbove joined entry_box keys e.entry old new old_free new_free l b.child
+        → HaveGrown (HasCorners joined entry_box keys) e.entry old new old_free new_free l (b ∷ []) (b ∷ [])
+    grown-same was same =
+        let placed = same.grown.grows.placed in
+        let here : IsBranchOf (HasCorners joined entry_box keys) new l b = record {
+          filled = omega (arith, was.filled, same.grown.rows);
+          first = same.first b.key b.id was.first;
+          corners = record { summary = was.corners.summary; is = same.summary ∙ was.corners.is; corners = was.corners.corners };
+        } in
+        record {
+          changes = record {
+            placed = record { before = placed.before; after = placed.after; were = single_list old l b ∙ placed.were; are = single_list new l b ∙ placed.are; lower = placed.lower; upper = placed.upper };
+            moved = λ m. omega (arith, same.grown.grows.moved m, single_times m old l b, single_times m new l b);
+            outside = λ m none. same.grown.grows.outside m (omega (arith, none, single_times m new l b));
+          };
+          children = children-cons (HasCorners joined entry_box keys) new l b [] (here, same.grown.nodes) (children-none (HasCorners joined entry_box keys) new l);
+        }
+
     pub grown-split : (left right : Part S) → IsSplit joined entry_box keys e.entry old new old_free new_free l b.child left right
         → HaveGrown (HasCorners joined entry_box keys) e.entry old new old_free new_free l (b ∷ []) (branch_of keys left ∷ branch_of keys right ∷ [])
     grown-split left right split =
@@ -92,6 +109,8 @@ module _ {S : Type 0} (joined : S → S → S) (entry_box : Entry → Option S) 
     -- whatever the node became
     pub regrown : (grown : Grown S) (mid : List Branch) → Regrows joined branch_box keys e b grown mid → IsBranchOf (HasCorners joined entry_box keys) old l b
         → Grows joined entry_box keys e.entry old new old_free new_free l b.child (Ok grown) → HaveGrown (HasCorners joined entry_box keys) e.entry old new old_free new_free l (b ∷ []) mid
+    regrown Same mid is was same =
+        subst (λ (bs : List Branch). HaveGrown (HasCorners joined entry_box keys) e.entry old new old_free new_free l (b ∷ []) bs) (sym is) (grown-same was same)
     regrown Whole mid is was grown =
         subst (λ (bs : List Branch). HaveGrown (HasCorners joined entry_box keys) e.entry old new old_free new_free l (b ∷ []) bs) (sym is.1.1) (grown-whole is.0 is.1.0 was grown)
     regrown (Split left right) mid is was split =

@@ -1,5 +1,5 @@
 -- An inner node under which an entry is put: the child, what the child needs, and what the node becomes.
-use Rattle.std.proofs.Common.{◌≡◌, ℕ, zero, suc, ◌+◌, ◌-◌, ◌<◌, ◌≤◌, Bool, true, false, List, [], ◌∷◌, ◌++◌, length, take, drop, get_or, refl, sym, ap, ap₂, subst, ◌∙◌, arith, append_assoc, length-append}
+use Rattle.std.proofs.Common.{◌≡◌, ℕ, suc, ◌+◌, ◌-◌, ◌<◌, ◌≤◌, Bool, true, false, List, [], ◌∷◌, ◌++◌, length, take, drop, get_or, sym, ap, subst, ◌∙◌, arith, append_assoc, length-append}
 use Rattle.std.specs.Prelude.{IsTrue, IsSome, Option, Some, None, Result, Ok}
 use Rattle.std.specs.List.{AllByRecursion, replace_range}
 use Rattle.std.proofs.lemmas.List.{length-take-le, length-drop}
@@ -10,17 +10,17 @@ use Rattle.bptree_node.specs.declared.rows.Branch.{Branch}
 use Rattle.bptree_node.specs.Nodes.{Inner, node_in}
 use Rattle.bptree_node.specs.Summaries.{HasCorners}
 use Rattle.bptree_node.specs.Lists.{all-front, all-back}
-use Rattle.bptree_node.specs.Trees.{goes_before, is_entry, IsRising, HasFirst}
-use Rattle.bptree_node.specs.EntryLaws.{AreBefore, AreBehind, StartsBehind, starts-behind, before-first, rising-front, rising-back}
+use Rattle.bptree_node.specs.Trees.{is_entry, IsRising}
+use Rattle.bptree_node.specs.EntryLaws.{rising-front, rising-back}
 use Rattle.bptree_insert.specs.declared.grown.Boxed.{Boxed}
 use Rattle.bptree_insert.specs.declared.grown.Grown.{Grown}
-use Rattle.bptree_insert.specs.declared.grown.Grown.TheVariants.{Whole, Split}
+use Rattle.bptree_insert.specs.declared.grown.Grown.TheVariants.{Same, Whole, Split}
 use Rattle.bptree_edit.specs.Parts.{before_branch}
 use Rattle.bptree_edit.specs.NodesAt.{times, list_under, pages_under, list_under_all, pages_under_all, AreChildren, IsBranchOf, AreNodesUnder}
-use Rattle.bptree_insert.specs.Steps.{HaveNot, CanTake, Regrows, StoresInner, Grows}
+use Rattle.bptree_insert.specs.Steps.{HaveNot, CanTake, Regrows, StoresChanged, Grows}
 use Rattle.bptree_edit.proofs.Summing.{AreJoined}
 use Rattle.bptree_edit.proofs.Counts.{one_if, times-cons, own_live}
-use Rattle.bptree_edit.proofs.Under.{list-inner, pages-inner, list_all-cons, list_all-append, list_all-none, times_all-cons, times_all-append, own_page, children-front, children-back, children-first, children-others, children-of, inner-of}
+use Rattle.bptree_edit.proofs.Under.{list-inner, pages-inner, own_page, children-of, inner-of}
 use Rattle.bptree_insert.proofs.Growing.{HaveGrown, regrown}
 use Rattle.bptree_insert.proofs.Placing.{placed-within}
 use Rattle.bptree_insert.specs.Rows.{IsPlaced}
@@ -54,21 +54,13 @@ grows-moved joined entry_box keys e old old' new free free' new_free l n result 
 
 pub regrows-count : {S : Type 0} (joined : S → S → S) (branch_box : ℕ → ℕ → Option S) (keys : S → ℕ × ℕ) (e : Boxed S) (b : Branch) (grown : Grown S) (mid : List Branch)
     → Regrows joined branch_box keys e b grown mid → 1 ≤ length mid
+regrows-count joined branch_box keys e b Same mid is = omega (arith, ap length is)
 regrows-count joined branch_box keys e b Whole mid is = omega (arith, ap length is.1.1)
 regrows-count joined branch_box keys e b (Split left right) mid is = omega (arith, ap length is)
-
-pub regrows-most : {S : Type 0} (joined : S → S → S) (branch_box : ℕ → ℕ → Option S) (keys : S → ℕ × ℕ) (e : Boxed S) (b : Branch) (grown : Grown S) (mid : List Branch)
-    → Regrows joined branch_box keys e b grown mid → length mid ≤ 2
-regrows-most joined branch_box keys e b Whole mid is = omega (arith, ap length is.1.1)
-regrows-most joined branch_box keys e b (Split left right) mid is = omega (arith, ap length is)
 
 pub replaced-count : (bs mid : List Branch) (at : ℕ) → at < length bs → 1 ≤ length mid → length bs ≤ length (replace_range bs at (at + 1) mid)
 replaced-count bs mid at below some =
     omega (arith, length-append (take at bs ++ mid) (drop (at + 1) bs), length-append (take at bs) mid, length-take-le at bs (omega (arith, below)), length-drop (at + 1) bs, some, below)
-
-pub replaced-most : (bs mid : List Branch) (at : ℕ) → at < length bs → length mid ≤ 2 → length (replace_range bs at (at + 1) mid) ≤ length bs + 1
-replaced-most bs mid at below few =
-    omega (arith, length-append (take at bs ++ mid) (drop (at + 1) bs), length-append (take at bs) mid, length-take-le at bs (omega (arith, below)), length-drop (at + 1) bs, few, below)
 
 module _ {S : Type 0} (joined : S → S → S) (entry_box : Entry → Option S) (branch_box : ℕ → ℕ → Option S) (keys : S → ℕ × ℕ) (is_made : S → Type 0)
     (entry_made : (e : Entry) (s : S) → entry_box e ≡ Some s → is_made s) (back_of : (s : S) (low high : ℕ) → is_made s → keys s ≡ (low, high) → branch_box low high ≡ Some s)
@@ -160,9 +152,9 @@ module _ {S : Type 0} (joined : S → S → S) (entry_box : Entry → Option S) 
         rows-boxes = boxes-some joined entry_box branch_box keys is_made entry_made back_of laws mid_pages (level - 1) rows all_grown.children
 
         -- the node has the entry under it
-        pub node-grows : (new : ℕ → List ℕ) (new_free : List ℕ) (result : Result (Grown S) TreeError) → StoresInner joined branch_box n rows mid_pages new mid_free new_free result
-            → Grows joined entry_box keys e.entry pages new free new_free level n result
-        node-grows new new_free result stores =
-            subst (λ (k : ℕ). Grows joined entry_box keys e.entry pages new free new_free k n result) (omega (arith, above))
+        pub node-grows : (new : ℕ → List ℕ) (new_free : List ℕ) (now : Grown S) → StoresChanged joined branch_box n bs rows mid_pages new mid_free new_free now
+            → Grows joined entry_box keys e.entry pages new free new_free level n (Ok now)
+        node-grows new new_free now stores =
+            subst (λ (k : ℕ). Grows joined entry_box keys e.entry pages new free new_free k n (Ok now)) (omega (arith, above))
             (inner-grows joined entry_box branch_box keys is_made entry_made back_of laws e.entry pages mid_pages new free mid_free new_free (level - 1) n bs rows here can_here.own.once all_grown
-            (omega (arith, ap length is_rows, replaced-count bs mid at below (regrows-count joined branch_box keys e (get_or bs at d) grown mid regrows))) result stores)
+            (omega (arith, ap length is_rows, replaced-count bs mid at below (regrows-count joined branch_box keys e (get_or bs at d) grown mid regrows))) children now stores)

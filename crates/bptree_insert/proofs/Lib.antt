@@ -1,9 +1,12 @@
 pub mod PageSteps
+pub mod Leading
 pub mod Placing
 pub mod Growing
+pub mod Alike
 pub mod Storing
 pub mod LeafSteps
 pub mod InnerSteps
+pub mod InnerWays
 pub mod Rooted
 pub mod RootSteps
 pub mod Inserted

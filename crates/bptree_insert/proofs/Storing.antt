@@ -1,5 +1,5 @@
 -- A node written anew, or split: the tree under it has grown.
-use Rattle.std.proofs.Common.{◌≡◌, ℕ, suc, ◌+◌, ◌<◌, ◌≤◌, List, [], ◌++◌, length, take, drop, sym, ap, ap₂, subst, ◌∙◌, arith}
+use Rattle.std.proofs.Common.{◌≡◌, ℕ, suc, ◌+◌, ◌≤◌, List, [], ◌++◌, length, take, drop, sym, ap, ap₂, subst, ◌∙◌, arith}
 use Rattle.std.specs.Prelude.{Option, Some, Result, Ok, Err}
 use Rattle.std.proofs.lemmas.List.{take-append-drop, length-take-le, length-drop}
 use Rattle.page_laws.specs.declared.errors.TreeError.{TreeError}
@@ -9,17 +9,18 @@ use Rattle.bptree_node.specs.Nodes.{Leaf, Inner, node_in}
 use Rattle.bptree_node.specs.Summaries.{HasCorners, summary_of}
 use Rattle.bptree_edit.specs.declared.part.Part.{Part}
 use Rattle.bptree_insert.specs.declared.grown.Grown.{Grown}
-use Rattle.bptree_insert.specs.declared.grown.Grown.TheVariants.{Whole, Split}
+use Rattle.bptree_insert.specs.declared.grown.Grown.TheVariants.{Same, Whole, Split}
 use Rattle.bptree_node.specs.Trees.{HasFirst}
 use Rattle.bptree_insert.specs.Rows.{IsPlaced}
 use Rattle.bptree_edit.specs.NodesAt.{times, list_under, pages_under, list_under_all, pages_under_all, rows_in, AreChildren}
-use Rattle.bptree_insert.specs.Steps.{IsLeafStored, IsLeafSplit, IsInnerStored, IsInnerSplit, StoresLeaf, StoresInner, IsGrown, IsSplit, Grows}
+use Rattle.bptree_insert.specs.Steps.{IsLeafStored, IsLeafSplit, IsInnerStored, IsInnerSplit, StoresLeaf, StoresChanged, IsGrown, IsSameAbove, IsSplit, Grows}
 use Rattle.bptree_edit.proofs.Summing.{AreJoined}
 use Rattle.bptree_edit.proofs.Counts.{one_if, one_same, times-none, times-cons, times-append}
 use Rattle.bptree_edit.proofs.Under.{AreKept, list-leaf, pages-leaf, list-inner, pages-inner, list_all-append, times_all-append, list_all-kept, times_all-kept, all-kept, children-front, children-back, nodes-of, of-leaf}
 use Rattle.bptree_insert.proofs.Growing.{HaveGrown}
 use Rattle.bptree_edit.proofs.Branches.{first-under, summary-under}
 use Rattle.bptree_edit.proofs.Changing.{differs, one-none}
+use Rattle.bptree_insert.proofs.Alike.{summary-alike, first-alike}
 
 -- ---- an inner node
 
@@ -121,11 +122,35 @@ module _ {S : Type 0} (joined : S → S → S) (entry_box : Entry → Option S) 
         };
       }
 
-  pub inner-grows : (result : Result (Grown S) TreeError) → StoresInner joined branch_box n are old new old_free new_free result
-      → Grows joined entry_box keys e start new start_free new_free (suc l) n result
-  inner-grows (Ok Whole) stores = inner-stored stores
-  inner-grows (Ok (Split left right)) stores = inner-split left right stores
-  inner-grows (Err why) stores = tt
+  -- where the branches are the same, nothing is to be written
+  inner-same : AreChildren (HasCorners joined entry_box keys) start l were → are ≡ were → new ≡ old → new_free ≡ old_free
+      → IsSameAbove joined entry_box keys e start new start_free new_free (suc l) n
+  inner-same before rows pages free =
+      let here : node_in (new n) ≡ Some (Inner were) =
+      ap (λ (p : ℕ → List ℕ). node_in (p n)) pages ∙ ap node_in (grown.changes.outside n not_under) ∙ node in
+      let now : AreChildren (HasCorners joined entry_box keys) new l were =
+      subst (λ (p : ℕ → List ℕ). AreChildren (HasCorners joined entry_box keys) p l were) (sym pages)
+      (subst (AreChildren (HasCorners joined entry_box keys) old l) rows grown.children) in
+      let then_list = list-inner start l n were node in
+      let now_list = list-inner new l n were here in
+      record {
+        grown = inner-stored (record {
+          written = record { here = here ∙ ap (λ (bs : List Branch). Some (Inner bs)) (sym rows); others = λ m other. ap (λ (p : ℕ → List ℕ). p m) pages };
+          free = free;
+        });
+        first = λ key id first.
+            subst (HasFirst key id) (sym now_list)
+            (first-alike joined entry_box branch_box keys is_made entry_made back laws start new l key id were before now (subst (HasFirst key id) then_list first));
+        summary = ap (summary_of joined entry_box) now_list
+            ∙ summary-alike joined entry_box branch_box keys is_made entry_made back laws start new l were before now
+            ∙ ap (summary_of joined entry_box) (sym then_list);
+      }
+
+  pub inner-grows : AreChildren (HasCorners joined entry_box keys) start l were → (now : Grown S) → StoresChanged joined branch_box n were are old new old_free new_free now
+      → Grows joined entry_box keys e start new start_free new_free (suc l) n (Ok now)
+  inner-grows before Same stores = inner-same before stores.0 stores.1 stores.2
+  inner-grows before Whole stores = inner-stored stores
+  inner-grows before (Split left right) stores = inner-split left right stores
 
 -- ---- a leaf
 
@@ -200,6 +225,7 @@ module _ {S : Type 0} (joined : S → S → S) (entry_box : Entry → Option S) 
 
   pub leaf-grows : (result : Result (Grown S) TreeError) → StoresLeaf joined entry_box n are old new old_free new_free result
       → Grows joined entry_box keys e old new old_free new_free 0 n result
+  leaf-grows (Ok Same) stores = absurd stores
   leaf-grows (Ok Whole) stores = leaf-stored stores
   leaf-grows (Ok (Split left right)) stores = leaf-split left right stores
   leaf-grows (Err why) stores = tt

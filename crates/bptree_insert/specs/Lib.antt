@@ -1,4 +1,5 @@
 pub mod Growth
 pub mod Rows
 pub mod Steps
+pub mod Ways
 pub mod NoBoxLaws

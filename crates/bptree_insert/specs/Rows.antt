@@ -1,5 +1,5 @@
 -- The order of keys and ids, and rows that are put among others.
-use Rattle.std.specs.Prelude.{◌≡◌, ℕ, Bool, IsTrue, List, [], ◌∷◌, ◌++◌}
+use Rattle.std.specs.Prelude.{◌≡◌, Bool, IsTrue, List, ◌∷◌, ◌++◌}
 use Rattle.std.specs.List.{AllByRecursion}
 use Rattle.bptree_node.specs.declared.rows.Entry.{Entry}
 use Rattle.bptree_node.specs.Trees.{goes_before}

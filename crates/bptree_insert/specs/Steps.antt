@@ -1,12 +1,8 @@
 -- What an insertion makes of a node, of its branches and of the pages.
-use Rattle.std.specs.List.{AllByRecursion}
-use Rattle.std.specs.Prelude.{◌≡◌, ℕ, ◌+◌, ◌≤◌, ◌<◌, Bool, false, IsTrue, IsSome, List, [], ◌∷◌, ◌++◌, length, take, drop, Option, Some, Result, Ok, Err, if◌then◌else◌}
+use Rattle.std.specs.List.{AllByRecursion, replace_range}
+use Rattle.std.specs.Prelude.{◌≡◌, ℕ, ◌+◌, ◌≤◌, ◌<◌, Bool, false, IsSome, List, [], ◌∷◌, ◌++◌, length, take, drop, Option, Some, Result, Ok, Err, if◌then◌else◌}
 use Rattle.page_laws.specs.declared.errors.TreeError.{TreeError}
-use Rattle.page_laws.specs.declared.errors.TreeError.TheVariants as tree
 use Rattle.page_laws.specs.declared.root.Root.{Root}
-use Rattle.page_laws.specs.declared.rule.Rule.{Rule}
-use Rattle.page_laws.specs.declared.rule.Rule.TheVariants as rule
-use Rattle.page_laws.specs.Calls.{PagesChange}
 use Rattle.bptree_node.specs.declared.layout.TheConstants.{HEIGHT_LIMIT, LEAST_ENTRIES, LEAST_BRANCHES}
 use Rattle.bptree_node.specs.declared.rows.Entry.{Entry}
 use Rattle.bptree_node.specs.declared.rows.Branch.{Branch}
@@ -16,12 +12,14 @@ use Rattle.bptree_node.specs.Trees.{is_entry, IsRising, HasFirst}
 use Rattle.bptree_insert.specs.declared.grown.Boxed.{Boxed}
 use Rattle.bptree_edit.specs.declared.part.Part.{Part}
 use Rattle.bptree_insert.specs.declared.grown.Grown.{Grown}
-use Rattle.bptree_insert.specs.declared.grown.Grown.TheVariants.{Whole, Split}
+use Rattle.bptree_insert.specs.declared.grown.Grown.TheVariants.{Same, Whole, Split}
 use Rattle.bptree_edit.specs.Changes.{Changes}
 use Rattle.bptree_edit.specs.Steps.{IsWritten}
-use Rattle.bptree_edit.specs.Parts.{before_branch, HasFirstBranch, IsLeafPart, IsInnerPart, IsPartOf, branch_of}
+use Rattle.bptree_edit.specs.Parts.{before_branch, IsLeafPart, IsInnerPart, IsPartOf, branch_of}
 use Rattle.bptree_insert.specs.Rows.{IsPlaced}
-use Rattle.bptree_edit.specs.NodesAt.{times, list_under, pages_under, rows_in, least_rows, AreNodesUnder, AreOwn}
+use Rattle.bptree_insert.specs.declared.way.Way.{Way}
+use Rattle.bptree_insert.specs.Ways.{branches_on}
+use Rattle.bptree_edit.specs.NodesAt.{times, list_under, pages_under, rows_in, AreNodesUnder, AreOwn}
 
 -- ---- the pages
 
@@ -41,6 +39,7 @@ pub record IsJoined (taken : ℕ) (node : Node) (old new : ℕ → List ℕ) (ol
 
 -- the summaries are made of entries, of branches or by joining
 abbrev pub AreMade : {S : Type 0} → (S → Type 0) → Grown S → Type 0
+AreMade is_made Same = Unit {0}
 AreMade is_made Whole = Unit {0}
 AreMade is_made (Split left right) = is_made left.summary × is_made right.summary
 
@@ -58,6 +57,7 @@ pub record IsLeafSplit {S : Type 0} (joined : S → S → S) (entry_box : Entry 
 
 abbrev pub StoresLeaf : {S : Type 0} → (joined : S → S → S) → (entry_box : Entry → Option S) → ℕ → List Entry → (old new : ℕ → List ℕ) → (old_free new_free : List ℕ)
     → Result (Grown S) TreeError → Type 0
+StoresLeaf joined entry_box n entries old new old_free new_free (Ok Same) = ⊥
 StoresLeaf joined entry_box n entries old new old_free new_free (Ok Whole) = IsLeafStored n entries old new old_free new_free
 StoresLeaf joined entry_box n entries old new old_free new_free (Ok (Split left right)) = IsLeafSplit joined entry_box n entries old new old_free new_free left right
 StoresLeaf joined entry_box n entries old new old_free new_free (Err _) = Unit {0}
@@ -76,6 +76,7 @@ pub record IsInnerSplit {S : Type 0} (joined : S → S → S) (branch_box : ℕ 
 
 abbrev pub StoresInner : {S : Type 0} → (joined : S → S → S) → (branch_box : ℕ → ℕ → Option S) → ℕ → List Branch → (old new : ℕ → List ℕ) → (old_free new_free : List ℕ)
     → Result (Grown S) TreeError → Type 0
+StoresInner joined branch_box n branches old new old_free new_free (Ok Same) = ⊥
 StoresInner joined branch_box n branches old new old_free new_free (Ok Whole) = IsInnerStored n branches old new old_free new_free
 StoresInner joined branch_box n branches old new old_free new_free (Ok (Split left right)) = IsInnerSplit joined branch_box n branches old new old_free new_free left right
 StoresInner joined branch_box n branches old new old_free new_free (Err _) = Unit {0}
@@ -104,8 +105,35 @@ pub record IsWidened {S : Type 0} (joined : S → S → S) (branch_box : ℕ →
 
 -- what stands for the branch after its node has grown
 abbrev pub Regrows : {S : Type 0} → (joined : S → S → S) → (branch_box : ℕ → ℕ → Option S) → (keys : S → ℕ × ℕ) → Boxed S → Branch → Grown S → List Branch → Type 0
+Regrows joined branch_box keys e b Same branches = branches ≡ b ∷ []
 Regrows joined branch_box keys e b Whole branches = (wide : Branch) × (IsWidened joined branch_box keys e b wide × (branches ≡ wide ∷ []))
 Regrows joined branch_box keys e b (Split left right) branches = branches ≡ branch_of keys left ∷ branch_of keys right ∷ []
+
+-- what is written of an inner node once its branches have changed: nothing if they are the same
+abbrev pub StoresChanged : {S : Type 0} → (joined : S → S → S) → (branch_box : ℕ → ℕ → Option S) → ℕ → (were are : List Branch) → (old new : ℕ → List ℕ) → (old_free new_free : List ℕ)
+    → Grown S → Type 0
+StoresChanged joined branch_box n were are old new old_free new_free Same = (are ≡ were) × (new ≡ old) × (new_free ≡ old_free)
+StoresChanged joined branch_box n were are old new old_free new_free Whole = IsInnerStored n are old new old_free new_free
+StoresChanged joined branch_box n were are old new old_free new_free (Split left right) = IsInnerSplit joined branch_box n are old new old_free new_free left right
+
+-- an inner node has what stands for the branch that the way leads to, and was written if that changed it
+pub record IsRestored {S : Type 0} (joined : S → S → S) (branch_box : ℕ → ℕ → Option S) (keys : S → ℕ × ℕ) (e : Boxed S) (n : ℕ) (page : List ℕ) (way : Way) (below : Grown S)
+    (old new : ℕ → List ℕ) (old_free new_free : List ℕ) (grown : Grown S) : Type 0 where
+  pub mid : List Branch
+  pub regrows : Regrows joined branch_box keys e way.branch below mid
+  pub stores : StoresChanged joined branch_box n (branches_on page) (replace_range (branches_on page) way.at (way.at + 1) mid) old new old_free new_free grown
+
+abbrev pub Restores : {S : Type 0} → (joined : S → S → S) → (branch_box : ℕ → ℕ → Option S) → (keys : S → ℕ × ℕ) → Boxed S → ℕ → List ℕ → Way → Grown S
+    → (old new : ℕ → List ℕ) → (old_free new_free : List ℕ) → Result (Grown S) TreeError → Type 0
+Restores joined branch_box keys e n page way below old new old_free new_free (Ok grown) = IsRestored joined branch_box keys e n page way below old new old_free new_free grown
+Restores joined branch_box keys e n page way below old new old_free new_free (Err _) = Unit {0}
+
+-- whatever stands for the branch, each of the node's branches has a box
+abbrev pub HaveBranchBoxes : {S : Type 0} → (joined : S → S → S) → (branch_box : ℕ → ℕ → Option S) → (keys : S → ℕ × ℕ) → Boxed S → List ℕ → Way → Grown S → Type 0
+HaveBranchBoxes joined branch_box keys e page way below =
+    IsSome (branch_box way.branch.low way.branch.high)
+    × ((mid : List Branch) → Regrows joined branch_box keys e way.branch below mid
+    → AllByRecursion (λ (b : Branch). IsSome (branch_box b.low b.high)) (replace_range (branches_on page) way.at (way.at + 1) mid))
 
 -- a page that was taken is the root above two nodes
 pub record IsRaised {S : Type 0} (keys : S → ℕ × ℕ) (root : Root) (left right : Part S) (old new : ℕ → List ℕ) (old_free new_free : List ℕ) (above : Root) : Type 0 where
@@ -133,6 +161,12 @@ pub record IsGrown {S : Type 0} (joined : S → S → S) (entry_box : Entry → 
   pub nodes : AreNodesUnder (HasCorners joined entry_box keys) new l n
   pub rows : rows_in (node_in (old n)) ≤ rows_in (node_in (new n))
 
+-- the node has the entry under it, and begins with the same key and id and has the same summary as before
+pub record IsSameAbove {S : Type 0} (joined : S → S → S) (entry_box : Entry → Option S) (keys : S → ℕ × ℕ) (e : Entry) (old new : ℕ → List ℕ) (old_free new_free : List ℕ) (l n : ℕ) : Type 0 where
+  pub grown : IsGrown joined entry_box keys e old new old_free new_free l n
+  pub first : (key id : ℕ) → HasFirst key id (list_under old l n) → HasFirst key id (list_under new l n)
+  pub summary : summary_of joined entry_box (list_under new l n) ≡ summary_of joined entry_box (list_under old l n)
+
 -- two nodes have the entries of the node and the new one
 pub record IsSplit {S : Type 0} (joined : S → S → S) (entry_box : Entry → Option S) (keys : S → ℕ × ℕ) (e : Entry) (old new : ℕ → List ℕ) (old_free new_free : List ℕ) (l n : ℕ)
     (left right : Part S) : Type 0 where
@@ -143,6 +177,7 @@ pub record IsSplit {S : Type 0} (joined : S → S → S) (entry_box : Entry → 
 
 abbrev pub Grows : {S : Type 0} → (joined : S → S → S) → (entry_box : Entry → Option S) → (keys : S → ℕ × ℕ) → Entry → (old new : ℕ → List ℕ) → (old_free new_free : List ℕ)
     → (l n : ℕ) → Result (Grown S) TreeError → Type 0
+Grows joined entry_box keys e old new old_free new_free l n (Ok Same) = IsSameAbove joined entry_box keys e old new old_free new_free l n
 Grows joined entry_box keys e old new old_free new_free l n (Ok Whole) = IsGrown joined entry_box keys e old new old_free new_free l n
 Grows joined entry_box keys e old new old_free new_free l n (Ok (Split left right)) = IsSplit joined entry_box keys e old new old_free new_free l n left right
 Grows joined entry_box keys e old new old_free new_free l n (Err _) = Unit {0}

@@ -8,14 +8,16 @@ ghost use Rattle.bptree_insert.specs.Steps.{CanTake, AreMade, Grows};
 ghost use Rattle.bptree_edit.specs.Steps.{PagesGrow, NamesTested};
 
 use crate::grown::{Boxed, Grown};
-use crate::inner::{store_inner, update};
+use crate::inner::restore;
 use crate::leaf::insert_in_leaf;
-use bptree_edit::{branches_of, child_for, damaged};
+use crate::way::way_for;
+use bptree_edit::damaged;
 use bptree_node::{Boxes, Summary};
 use page_laws::{PAGE_SIZE, Pages, Rule, TreeError};
 
 /// Inserts an entry under the node of a level that page `n` is: leaves are at 0. It reads one page of
-/// each level, and puts at most two and takes at most one for each.
+/// each level, and puts at most two and takes at most one for each. It puts none of an inner node whose
+/// branches stay as they are.
 pub(crate) fn insert_below<P: Pages, S: Summary, F: Boxes<S>>(
     pages: &mut P,
     n: u32,
@@ -43,13 +45,10 @@ pub(crate) fn insert_below<P: Pages, S: Summary, F: Boxes<S>>(
     if level == 0 {
         return insert_in_leaf(pages, n, &page, e, boxes);
     }
-    let mut branches = branches_of(&page, n)?;
-    let at = child_for(&branches, e.entry.key, e.entry.id);
-    let child = branches[at].child;
-    if !pages.is_live(child) {
+    let way = way_for(&page, n, e.entry.key, e.entry.id)?;
+    if !pages.is_live(way.branch.child) {
         return Err(damaged(n, Rule::Page));
     }
-    let grown = insert_below(pages, child, level - 1, e, boxes)?;
-    update(&mut branches, at, grown, n, e, boxes)?;
-    store_inner(pages, n, &branches, boxes)
+    let grown = insert_below(pages, way.branch.child, level - 1, e, boxes)?;
+    restore(pages, n, &page, &way, grown, e, boxes)
 }

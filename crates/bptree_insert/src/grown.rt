@@ -13,6 +13,9 @@ pub(crate) struct Boxed<S> {
 /// What an insertion made of a node.
 #[derive(Clone, Copy, Debug)]
 pub(crate) enum Grown<S> {
+    /// The node has the entry under it. Its branch stays as it is: the first key and id and the summary
+    /// are the same.
+    Same,
     /// The node, on its page, has the entry under it.
     Whole,
     /// The node was split: what stays on its page, and what is behind that on a page that was taken.

@@ -13,45 +13,118 @@ ghost use Rattle.bptree_node.specs.Summaries.{summary_of};
 ghost use Rattle.bptree_edit.specs.Parts.{before_branch, branch_of, IsInnerPart};
 ghost use Rattle.bptree_insert.specs.Steps as words;
 ghost use Rattle.bptree_edit.specs.Steps.{PagesGrow, IsWritten, NamesTested};
-ghost use Rattle.bptree_insert.specs.Steps.{IsJoined, AreMade, StoresInner, Regrows, IsWidened};
+ghost use Rattle.bptree_insert.specs.Steps.{IsJoined, AreMade, StoresInner, Restores, HaveBranchBoxes, IsWidened};
+ghost use Rattle.bptree_insert.specs.Ways.{branches_on, IsBranchAt};
+ghost use Rattle.bptree_insert.specs.declared.grown.Grown.TheVariants.{Whole};
 
 use crate::grown::{Boxed, Grown};
-use bptree_edit::{Branches, Part, branch_of, damaged, goes_before, inner_part, put_inner};
+use crate::way::Way;
+use bptree_edit::{Part, branch_of, branches_of, damaged, goes_before, inner_part, put_inner};
 use bptree_node::{Boxes, Branch, Entry, LEAST_BRANCHES, MOST_BRANCHES, Summary};
-use page_laws::{Pages, Rule, TreeError};
+use page_laws::{PAGE_SIZE, Pages, Rule, TreeError};
 
-/// Puts into the place of a branch what an insertion made of its node. The branches are of page `n`.
-pub(crate) fn update<S: Summary, F: Boxes<S>>(
-    branches: &mut Branches,
-    at: usize,
-    grown: Grown<S>,
+/// Makes of the inner node that page `n` holds, as `page`, what it is once the node under the way's
+/// branch has grown. It puts the page only where a branch changes.
+pub(crate) fn restore<P: Pages, S: Summary, F: Boxes<S>>(
+    pages: &mut P,
     n: u32,
+    page: &[u8; PAGE_SIZE],
+    way: &Way,
+    below: Grown<S>,
     e: &Boxed<S>,
     boxes: &F,
-) -> Result<(), TreeError>
-    requires place { at < length branches.old.items }
-    requires few { length branches.old.items ≤ MOST_BRANCHES }
+) -> Result<Grown<S>, TreeError>
+    requires live { IsTrue (is_live (P.in_pool pages.old) (P.free pages.old) n) }
+    requires open { IsTrue (P.is_open pages.old) }
+    requires free { 1 ≤ length (P.free pages.old) }
+    requires put { length (P.put_pages pages.old) + 2 ≤ CHANGE_LIMIT }
+    requires way { IsBranchAt page.now way.now }
     requires summary { F.entry_box boxes.now e.now.entry ≡ Some e.now.summary }
-    requires made { AreMade (F.is_made boxes.now) grown }
-    ensures grows { MatchResult result
-        (λ _. (d : Branch) → (mid : List Branch) × ((branches.new.items ≡ replace_range branches.old.items at (at + 1) mid)
-        × Regrows S.joined (F.branch_box boxes.now) (F.keys_of boxes.now) e.now (slice_index_or branches.old.items at d) grown mid))
-        (λ e. (e ≡ tree.Damaged n rule.Box) × ((d : Branch) → F.branch_box boxes.now (slice_index_or branches.old.items at d).low (slice_index_or branches.old.items at d).high ≡ None)) }
+    requires made { AreMade (F.is_made boxes.now) below }
+    ensures stores { Restores S.joined (F.branch_box boxes.now) (F.keys_of boxes.now) e.now n page.now way.now below (P.page_at pages.old) (P.page_at pages.new) (P.free pages.old) (P.free pages.new) result }
+    ensures made { IfOk result (AreMade (F.is_made boxes.now)) }
+    ensures pages { PagesGrow P.is_known P.has P.in_pool P.free P.is_open P.put_pages P.calm 1 2 pages.old pages.new }
+    ensures sound { HaveBranchBoxes S.joined (F.branch_box boxes.now) (F.keys_of boxes.now) e.now page.now way.now below → IsNotDamaged result }
+    ensures names { NamesTested result }
+    ensures fault { CountsTreeFault result (P.faults pages.old) (P.faults pages.new) }
 {
-    match grown {
-        Grown::Whole => {
-            let Some(branch) = widened(&branches[at], e, boxes) else {
-                return Err(damaged(n, Rule::Box));
-            };
-            branches[at] = branch;
-            Ok(())
-        }
-        Grown::Split(left, right) => {
-            branches[at] = branch_of(&left, boxes);
-            branches.insert(at + 1, branch_of(&right, boxes));
-            Ok(())
-        }
+    match below {
+        Grown::Same => Ok(Grown::Same),
+        Grown::Whole => widen(pages, n, page, way, e, boxes),
+        Grown::Split(left, right) => divide(pages, n, page, way, &left, &right, boxes),
     }
+}
+
+/// Widens the way's branch by the entry. The page is put unless that leaves the branch as it is.
+fn widen<P: Pages, S: Summary, F: Boxes<S>>(
+    pages: &mut P,
+    n: u32,
+    page: &[u8; PAGE_SIZE],
+    way: &Way,
+    e: &Boxed<S>,
+    boxes: &F,
+) -> Result<Grown<S>, TreeError>
+    requires live { IsTrue (is_live (P.in_pool pages.old) (P.free pages.old) n) }
+    requires open { IsTrue (P.is_open pages.old) }
+    requires put { length (P.put_pages pages.old) + 2 ≤ CHANGE_LIMIT }
+    requires way { IsBranchAt page.now way.now }
+    requires summary { F.entry_box boxes.now e.now.entry ≡ Some e.now.summary }
+    ensures stores { Restores S.joined (F.branch_box boxes.now) (F.keys_of boxes.now) e.now n page.now way.now Whole (P.page_at pages.old) (P.page_at pages.new) (P.free pages.old) (P.free pages.new) result }
+    ensures made { IfOk result (AreMade (F.is_made boxes.now)) }
+    ensures pages { PagesGrow P.is_known P.has P.in_pool P.free P.is_open P.put_pages P.calm 0 1 pages.old pages.new }
+    ensures sound { HaveBranchBoxes S.joined (F.branch_box boxes.now) (F.keys_of boxes.now) e.now page.now way.now Whole → IsNotDamaged result }
+    ensures names { NamesTested result }
+    ensures fault { CountsTreeFault result (P.faults pages.old) (P.faults pages.new) }
+{
+    let Some(wide) = widened(&way.branch, e, boxes) else {
+        return Err(damaged(n, Rule::Box));
+    };
+    if is_same(&wide, &way.branch) {
+        return Ok(Grown::Same);
+    }
+    let mut branches = branches_of(page, n)?;
+    branches[way.at] = wide;
+    put_inner(pages, n, &branches);
+    Ok(Grown::Whole)
+}
+
+/// Puts the branches of two nodes into the place of the way's branch, whose node was split into them.
+fn divide<P: Pages, S: Summary, F: Boxes<S>>(
+    pages: &mut P,
+    n: u32,
+    page: &[u8; PAGE_SIZE],
+    way: &Way,
+    left: &Part<S>,
+    right: &Part<S>,
+    boxes: &F,
+) -> Result<Grown<S>, TreeError>
+    requires live { IsTrue (is_live (P.in_pool pages.old) (P.free pages.old) n) }
+    requires open { IsTrue (P.is_open pages.old) }
+    requires free { 1 ≤ length (P.free pages.old) }
+    requires put { length (P.put_pages pages.old) + 2 ≤ CHANGE_LIMIT }
+    requires way { IsBranchAt page.now way.now }
+    requires left { F.is_made boxes.now left.now.summary }
+    requires right { F.is_made boxes.now right.now.summary }
+    ensures stores { let rows = replace_range (branches_on page.now) way.now.at (way.now.at + 1) (branch_of (F.keys_of boxes.now) left.now ∷ branch_of (F.keys_of boxes.now) right.now ∷ []) in
+        StoresInner S.joined (F.branch_box boxes.now) n rows (P.page_at pages.old) (P.page_at pages.new) (P.free pages.old) (P.free pages.new) result }
+    ensures made { IfOk result (AreMade (F.is_made boxes.now)) }
+    ensures pages { PagesGrow P.is_known P.has P.in_pool P.free P.is_open P.put_pages P.calm 1 2 pages.old pages.new }
+    ensures sound { let rows = replace_range (branches_on page.now) way.now.at (way.now.at + 1) (branch_of (F.keys_of boxes.now) left.now ∷ branch_of (F.keys_of boxes.now) right.now ∷ []) in
+        AllByRecursion (λ (b : Branch). IsSome (F.branch_box boxes.now b.low b.high)) rows → IsNotDamaged result }
+    ensures names { NamesTested result }
+    ensures fault { CountsTreeFault result (P.faults pages.old) (P.faults pages.new) }
+{
+    let mut branches = branches_of(page, n)?;
+    branches[way.at] = branch_of(left, boxes);
+    branches.insert(way.at + 1, branch_of(right, boxes));
+    store_inner(pages, n, &branches, boxes)
+}
+
+/// Whether two branches are the same.
+fn is_same(branch: &Branch, other: &Branch) -> bool
+    ensures { IsTrue result → branch.now ≡ other.now }
+{
+    branch == other
 }
 
 /// The branch with one entry more under it, or None if its corners are those of no box.

@@ -78,6 +78,7 @@ pub fn insert<P: Pages, S: Summary, F: Boxes<S>>(
     };
     let e = Boxed { entry: e, summary };
     match insert_below(pages, root.page, root.height - 1, &e, boxes)? {
+        Grown::Same => Ok(root),
         Grown::Whole => Ok(root),
         Grown::Split(left, right) => raise(pages, root, &left, &right, boxes),
     }

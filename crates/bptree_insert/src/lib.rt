@@ -6,5 +6,6 @@ mod grown;
 mod inner;
 mod inserting;
 mod leaf;
+mod way;
 
 pub use inserting::{ENTRY_LIMIT, insert};

@@ -4,7 +4,7 @@ use Rattle.std.proofs.lemmas.Bool.{false≢true}
 use Rattle.bptree_node.specs.Summaries.{HasCorners}
 use Rattle.bptree_insert.specs.declared.grown.Boxed.{Boxed}
 use Rattle.bptree_insert.specs.declared.grown.Grown.{Grown}
-use Rattle.bptree_insert.specs.declared.grown.Grown.TheVariants.{Whole, Split}
+use Rattle.bptree_insert.specs.declared.grown.Grown.TheVariants.{Same, Whole, Split}
 use Rattle.bptree_node.specs.Trees.{IsTree, list_at, pages_at}
 use Rattle.page_laws.specs.Pages.{is_live}
 use Rattle.bptree_edit.specs.Changes.{IsWith, StaysOutside, AreFreeAfter}
@@ -67,6 +67,25 @@ returns-in_err-insert_below-clause-takes g c =
     let low = c.requires.height in
     takes-most c.insert_below.ensures.pages 6 (omega (arith, low, c.if-root-eq0.false))
 
+pub returns-in-Same-clause-list : goal.returns-in-Same-clause-list
+returns-in-Same-clause-list g c = λ known.
+    let P = g.P.Pages in
+    let F = g.F.Boxes in
+    let B = c.args.boxes.now in
+    let joined = g.S.Summary.joined in
+    let laws = g.met.F.Boxes.box_laws B in
+    let join = join_of_laws g.S.Summary.size joined (F.entry_box B) (F.branch_box B) (F.keys_of B) (F.is_made B) (F.width B) g.met.S.Summary.join_laws laws in
+    let e : Boxed g.row.S.Denot = record { entry = c.args.e; summary = c.in-Some.summary } in
+    let own = sym c.of_entry.ensures ∙ c.in-Some.is in
+    let grown = c.in_ok-insert_below.ensures.grows known in
+    let is : Grows joined (F.entry_box B) (F.keys_of B) c.args.e (P.page_at c.args.pages.now) (P.page_at c.insert_below.new.pages) (P.free c.args.pages.now) (P.free c.insert_below.new.pages)
+    (c.args.root.height - 1) c.args.root.page (Ok Same) =
+    subst (λ (k : Grown g.row.S.Denot). Grows joined (F.entry_box B) (F.keys_of B) c.args.e (P.page_at c.args.pages.now) (P.page_at c.insert_below.new.pages) (P.free c.args.pages.now)
+    (P.free c.insert_below.new.pages) (c.args.root.height - 1) c.args.root.page (Ok k)) c.in-Same.is grown in
+    let made = whole-inserted joined (F.entry_box B) (F.branch_box B) (F.keys_of B) (F.is_made B) laws.entry_made laws.back join (P.in_pool c.args.pages.now) e own (P.page_at c.args.pages.now) (P.free c.args.pages.now) c.args.root c.is_live.ensures.free (c.requires.tree known) c.if-root-eq0.false (P.in_pool c.insert_below.new.pages) (P.page_at c.insert_below.new.pages) (P.free c.insert_below.new.pages)
+    c.in_ok-insert_below.ensures.pages.change.pool is.grown in
+    made.list
+
 pub returns-in-Whole-clause-list : goal.returns-in-Whole-clause-list
 returns-in-Whole-clause-list g c = λ known.
     let P = g.P.Pages in
@@ -85,6 +104,25 @@ returns-in-Whole-clause-list g c = λ known.
     let made = whole-inserted joined (F.entry_box B) (F.branch_box B) (F.keys_of B) (F.is_made B) laws.entry_made laws.back join (P.in_pool c.args.pages.now) e own (P.page_at c.args.pages.now) (P.free c.args.pages.now) c.args.root c.is_live.ensures.free (c.requires.tree known) c.if-root-eq0.false (P.in_pool c.insert_below.new.pages) (P.page_at c.insert_below.new.pages) (P.free c.insert_below.new.pages)
     c.in_ok-insert_below.ensures.pages.change.pool is in
     made.list
+
+pub returns-in-Same-clause-tree : goal.returns-in-Same-clause-tree
+returns-in-Same-clause-tree g c = λ known.
+    let P = g.P.Pages in
+    let F = g.F.Boxes in
+    let B = c.args.boxes.now in
+    let joined = g.S.Summary.joined in
+    let laws = g.met.F.Boxes.box_laws B in
+    let join = join_of_laws g.S.Summary.size joined (F.entry_box B) (F.branch_box B) (F.keys_of B) (F.is_made B) (F.width B) g.met.S.Summary.join_laws laws in
+    let e : Boxed g.row.S.Denot = record { entry = c.args.e; summary = c.in-Some.summary } in
+    let own = sym c.of_entry.ensures ∙ c.in-Some.is in
+    let grown = c.in_ok-insert_below.ensures.grows known in
+    let is : Grows joined (F.entry_box B) (F.keys_of B) c.args.e (P.page_at c.args.pages.now) (P.page_at c.insert_below.new.pages) (P.free c.args.pages.now) (P.free c.insert_below.new.pages)
+    (c.args.root.height - 1) c.args.root.page (Ok Same) =
+    subst (λ (k : Grown g.row.S.Denot). Grows joined (F.entry_box B) (F.keys_of B) c.args.e (P.page_at c.args.pages.now) (P.page_at c.insert_below.new.pages) (P.free c.args.pages.now)
+    (P.free c.insert_below.new.pages) (c.args.root.height - 1) c.args.root.page (Ok k)) c.in-Same.is grown in
+    let made = whole-inserted joined (F.entry_box B) (F.branch_box B) (F.keys_of B) (F.is_made B) laws.entry_made laws.back join (P.in_pool c.args.pages.now) e own (P.page_at c.args.pages.now) (P.free c.args.pages.now) c.args.root c.is_live.ensures.free (c.requires.tree known) c.if-root-eq0.false (P.in_pool c.insert_below.new.pages) (P.page_at c.insert_below.new.pages) (P.free c.insert_below.new.pages)
+    c.in_ok-insert_below.ensures.pages.change.pool is.grown in
+    made.tree
 
 pub returns-in-Whole-clause-tree : goal.returns-in-Whole-clause-tree
 returns-in-Whole-clause-tree g c = λ known.
@@ -105,6 +143,25 @@ returns-in-Whole-clause-tree g c = λ known.
     c.in_ok-insert_below.ensures.pages.change.pool is in
     made.tree
 
+pub returns-in-Same-clause-outside : goal.returns-in-Same-clause-outside
+returns-in-Same-clause-outside g c = λ known.
+    let P = g.P.Pages in
+    let F = g.F.Boxes in
+    let B = c.args.boxes.now in
+    let joined = g.S.Summary.joined in
+    let laws = g.met.F.Boxes.box_laws B in
+    let join = join_of_laws g.S.Summary.size joined (F.entry_box B) (F.branch_box B) (F.keys_of B) (F.is_made B) (F.width B) g.met.S.Summary.join_laws laws in
+    let e : Boxed g.row.S.Denot = record { entry = c.args.e; summary = c.in-Some.summary } in
+    let own = sym c.of_entry.ensures ∙ c.in-Some.is in
+    let grown = c.in_ok-insert_below.ensures.grows known in
+    let is : Grows joined (F.entry_box B) (F.keys_of B) c.args.e (P.page_at c.args.pages.now) (P.page_at c.insert_below.new.pages) (P.free c.args.pages.now) (P.free c.insert_below.new.pages)
+    (c.args.root.height - 1) c.args.root.page (Ok Same) =
+    subst (λ (k : Grown g.row.S.Denot). Grows joined (F.entry_box B) (F.keys_of B) c.args.e (P.page_at c.args.pages.now) (P.page_at c.insert_below.new.pages) (P.free c.args.pages.now)
+    (P.free c.insert_below.new.pages) (c.args.root.height - 1) c.args.root.page (Ok k)) c.in-Same.is grown in
+    let made = whole-inserted joined (F.entry_box B) (F.branch_box B) (F.keys_of B) (F.is_made B) laws.entry_made laws.back join (P.in_pool c.args.pages.now) e own (P.page_at c.args.pages.now) (P.free c.args.pages.now) c.args.root c.is_live.ensures.free (c.requires.tree known) c.if-root-eq0.false (P.in_pool c.insert_below.new.pages) (P.page_at c.insert_below.new.pages) (P.free c.insert_below.new.pages)
+    c.in_ok-insert_below.ensures.pages.change.pool is.grown in
+    made.outside
+
 pub returns-in-Whole-clause-outside : goal.returns-in-Whole-clause-outside
 returns-in-Whole-clause-outside g c = λ known.
     let P = g.P.Pages in
@@ -124,6 +181,25 @@ returns-in-Whole-clause-outside g c = λ known.
     c.in_ok-insert_below.ensures.pages.change.pool is in
     made.outside
 
+pub returns-in-Same-clause-free : goal.returns-in-Same-clause-free
+returns-in-Same-clause-free g c = λ known.
+    let P = g.P.Pages in
+    let F = g.F.Boxes in
+    let B = c.args.boxes.now in
+    let joined = g.S.Summary.joined in
+    let laws = g.met.F.Boxes.box_laws B in
+    let join = join_of_laws g.S.Summary.size joined (F.entry_box B) (F.branch_box B) (F.keys_of B) (F.is_made B) (F.width B) g.met.S.Summary.join_laws laws in
+    let e : Boxed g.row.S.Denot = record { entry = c.args.e; summary = c.in-Some.summary } in
+    let own = sym c.of_entry.ensures ∙ c.in-Some.is in
+    let grown = c.in_ok-insert_below.ensures.grows known in
+    let is : Grows joined (F.entry_box B) (F.keys_of B) c.args.e (P.page_at c.args.pages.now) (P.page_at c.insert_below.new.pages) (P.free c.args.pages.now) (P.free c.insert_below.new.pages)
+    (c.args.root.height - 1) c.args.root.page (Ok Same) =
+    subst (λ (k : Grown g.row.S.Denot). Grows joined (F.entry_box B) (F.keys_of B) c.args.e (P.page_at c.args.pages.now) (P.page_at c.insert_below.new.pages) (P.free c.args.pages.now)
+    (P.free c.insert_below.new.pages) (c.args.root.height - 1) c.args.root.page (Ok k)) c.in-Same.is grown in
+    let made = whole-inserted joined (F.entry_box B) (F.branch_box B) (F.keys_of B) (F.is_made B) laws.entry_made laws.back join (P.in_pool c.args.pages.now) e own (P.page_at c.args.pages.now) (P.free c.args.pages.now) c.args.root c.is_live.ensures.free (c.requires.tree known) c.if-root-eq0.false (P.in_pool c.insert_below.new.pages) (P.page_at c.insert_below.new.pages) (P.free c.insert_below.new.pages)
+    c.in_ok-insert_below.ensures.pages.change.pool is.grown in
+    made.free
+
 pub returns-in-Whole-clause-free : goal.returns-in-Whole-clause-free
 returns-in-Whole-clause-free g c = λ known.
     let P = g.P.Pages in
@@ -142,6 +218,11 @@ returns-in-Whole-clause-free g c = λ known.
     let made = whole-inserted joined (F.entry_box B) (F.branch_box B) (F.keys_of B) (F.is_made B) laws.entry_made laws.back join (P.in_pool c.args.pages.now) e own (P.page_at c.args.pages.now) (P.free c.args.pages.now) c.args.root c.is_live.ensures.free (c.requires.tree known) c.if-root-eq0.false (P.in_pool c.insert_below.new.pages) (P.page_at c.insert_below.new.pages) (P.free c.insert_below.new.pages)
     c.in_ok-insert_below.ensures.pages.change.pool is in
     made.free
+
+pub returns-in-Same-clause-takes : goal.returns-in-Same-clause-takes
+returns-in-Same-clause-takes g c =
+    let low = c.requires.height in
+    takes-most c.in_ok-insert_below.ensures.pages 6 (omega (arith, low, c.if-root-eq0.false))
 
 pub returns-in-Whole-clause-takes : goal.returns-in-Whole-clause-takes
 returns-in-Whole-clause-takes g c =
