@@ -20,7 +20,7 @@ use page_laws::{Pages, Rule, TreeError};
 
 /// Stores the entries of two leaves that are neighbours, in their order; the first `own` of them were
 /// those of page `left`. If one leaf has room for all, that page gets them, and page `right` is given
-/// back. Else each page gets a half. The entries are 15 to 44.
+/// back. Else each page gets a half. The entries are 15 to 43.
 ///
 /// Damaged comes only for an entry whose key is none of the tree, with the page that it was on.
 pub fn mend_leaves<P: Pages, S: Summary, F: Boxes<S>>(
