@@ -16,11 +16,11 @@ use Rattle.spb_defs.specs.Scans.{Entry, rank_bound}
 use Rattle.pivot_map.specs.declared.row.Row as vector_row
 use Rattle.pivot_map.specs.Rows.{entry_of, entries_of}
 use Rattle.pivot_map.specs.Bounds.{BoundsHold}
-use Rattle.nn_query.specs.declared.queue.Waiting.{Waiting}
+use Rattle.near_search.specs.declared.queue.Waiting.{Waiting}
 use Rattle.nn_query.specs.Listed.{candidate_for, candidates_for, object_at_place, empty_nodes}
-use Rattle.nn_query.specs.Queue.{Candidate, as_waiting, bound_rank, candidate_is_before, candidates_under, weight_of, queued_candidates}
-use Rattle.nn_query.specs.Visits.{entry_at, entries_at, CanVisit, IsLeast, AreBounds}
-use Rattle.nn_query.proofs.Lists.{all-map, all-moved}
+use Rattle.near_search.specs.Queue.{Candidate, as_waiting, bound_rank, candidate_is_before, candidates_under, weight_of, most_of, queued_candidates}
+use Rattle.near_search.specs.Visits.{entry_at, entries_at, CanVisit, IsLeast, AreBounds}
+use Rattle.near_search.proofs.Lists.{all-map, all-moved}
 
 -- ---- the list
 
@@ -83,7 +83,7 @@ not_less : (b d i : ℕ) → b ≤ d → (nat_lt d b || ((d == b) && nat_lt i i)
 not_less b d i h = grind (arith, nat_tests)
 
 -- no rank goes before its bound
-not_under : (b d i : ℕ) → b ≤ d → goes_before (d, i) (b, i) ≡ false
+pub not_under : (b d i : ℕ) → b ≤ d → goes_before (d, i) (b, i) ≡ false
 not_under b d i h = goes_before-is (d, i) (b, i) ∙ not_less b d i h
 
 pub whole-list : (asked : List ℕ) (rows : List vector_row.Row) (cs : List Candidate) → IsPermutation (candidates_for asked 0 rows) cs
@@ -116,6 +116,10 @@ candidates_under-rows : (cs : List Candidate) → flat_map (candidates_under emp
 candidates_under-rows [] = refl
 candidates_under-rows (c ∷ cs) = flat_map-cons (candidates_under empty_nodes) (as_waiting c) (map as_waiting cs) ∙ ap (λ ds. c ∷ ds) (candidates_under-rows cs)
 
+most-rows : (cs : List Candidate) → sum_by (most_of empty_nodes) (map as_waiting cs) ≡ length cs
+most-rows [] = refl
+most-rows (c ∷ cs) = let a = sum_by-cons (most_of empty_nodes) (as_waiting c) (map as_waiting cs) in let b = most-rows cs in omega (arith, a, b)
+
 weight-rows : (cs : List Candidate) → sum_by (weight_of empty_nodes) (map as_waiting cs) ≡ length cs
 weight-rows [] = refl
 weight-rows (c ∷ cs) = let a = sum_by-cons (weight_of empty_nodes) (as_waiting c) (map as_waiting cs) in let b = weight-rows cs in omega (arith, a, b)
@@ -132,9 +136,12 @@ module _ (asked : List ℕ) (rows : List vector_row.Row) (items : List Waiting) 
   pub weight-is : sum_by (weight_of empty_nodes) items ≡ length rows
   weight-is = sum_by-IsPermutation (weight_of empty_nodes) _ items moved ∙ weight-rows (candidates_for asked 0 rows) ∙ length-candidates_for asked 0 rows
 
+  pub most-is : sum_by (most_of empty_nodes) items ≡ length rows
+  most-is = sum_by-IsPermutation (most_of empty_nodes) _ items moved ∙ most-rows (candidates_for asked 0 rows) ∙ length-candidates_for asked 0 rows
+
   -- each has its row
-  pub have-rows : AllByRecursion (CanVisit (λ level place. Unit {0}) (λ place. place < length rows)) items
-  have-rows = all-moved _ _ items moved (all-map (CanVisit (λ level place. Unit {0}) (λ place. place < length rows)) as_waiting (candidates_for asked 0 rows)
+  pub have-rows : AllByRecursion (CanVisit (λ level place. Unit {0}) (λ id place. place < length rows)) items
+  have-rows = all-moved _ _ items moved (all-map (CanVisit (λ level place. Unit {0}) (λ id place. place < length rows)) as_waiting (candidates_for asked 0 rows)
       (each-candidates_for (λ (c : Candidate). c.place < length rows) asked rows (λ k row below at. below)))
 
   are-least : (cs : List Candidate) → AllByRecursion (IsLeast empty_nodes (λ level place. Unit {0})) (map as_waiting cs)

@@ -1,7 +1,1 @@
 pub mod Candidates
-pub mod Counting
-pub mod Found
-pub mod Lists
-pub mod Looking
-pub mod Orders
-pub mod Turns

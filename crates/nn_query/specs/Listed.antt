@@ -3,7 +3,7 @@ use Rattle.std.specs.Prelude.{ℕ, ◌+◌, List, [], ◌∷◌}
 use Rattle.std.specs.List.{slice_index_or}
 use Rattle.pivot_map.specs.declared.row.Row as vector_row
 use Rattle.spb_defs.specs.Pivots.{lower_bound}
-use Rattle.nn_query.specs.Queue.{Candidate, Nodes}
+use Rattle.near_search.specs.Queue.{Candidate, Nodes}
 
 -- the candidate for the row at a place
 abbrev pub candidate_for : List ℕ → ℕ → vector_row.Row → Candidate
@@ -20,4 +20,4 @@ object_at_place rows place = (slice_index_or rows place (record { id = 0; object
 
 -- the nodes over rows are empty
 abbrev pub empty_nodes : Nodes
-empty_nodes = record { objects = λ level place. []; bounds = λ level place. []; weight = λ level. 1 }
+empty_nodes = record { objects = λ level place. []; bounds = λ level place. []; weight = λ level. 1; most = λ level. 0 }

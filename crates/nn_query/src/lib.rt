@@ -1,10 +1,8 @@
 //! The k nearest neighbours, answered with few distance computations: exactly what a scan of all objects gives.
 #![tactic(auto)]
 
-mod best;
-mod hierarchy;
+mod listing;
 mod near;
-mod queue;
 mod rows;
 
 pub use near::near_rows;

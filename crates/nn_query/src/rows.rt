@@ -1,12 +1,10 @@
 //! Rows, without nodes over them.
-ghost use Rattle.std.specs.Prelude.{◌<◌, List, length, All};
+ghost use Rattle.std.specs.Prelude.{◌≡◌, true, ◌<◌, List, length, All};
 ghost use Rattle.pivot_map.specs.declared.row.Row as vector_row;
 ghost use Rattle.nn_query.specs.Listed.{object_at_place, empty_nodes};
 
-use crate::best::Best;
-use crate::hierarchy::Hierarchy;
-use crate::queue::Queue;
 use metric_laws::Ruler;
+use near_search::{Best, Hierarchy, Queue};
 use pivot_map::Row;
 use spb_edge::Memory;
 
@@ -17,11 +15,15 @@ pub(crate) struct Rows<'a> {
 }
 
 impl<'a> Hierarchy for Rows<'a> {
+    ghost use Rattle.std.proofs.Common.{refl, ◌∙◌};
+
     type Error = Memory;
 
     ghost Content = { List vector_row.Row };
 
     ghost content = { λ s. s.rows.now };
+
+    ghost is_known = { λ rows. true };
 
     ghost nodes = { λ rows. empty_nodes };
 
@@ -29,13 +31,37 @@ impl<'a> Hierarchy for Rows<'a> {
 
     ghost can_open = { λ rows level place. Unit {0} };
 
-    ghost can_measure = { λ rows place. place < length rows };
+    ghost can_measure = { λ rows id place. place < length rows };
 
     ghost suits = { λ rows admitted. All (λ (row : vector_row.Row). admitted row.object) rows };
 
     ghost is_sound = { λ rows level place. Unit {0} };
 
-    fn measure<R: Ruler>(&mut self, place: u32, ruler: &mut R, q: &[u8]) -> Result<u32, Memory> {
+    ghost Follows = { λ n old new. new ≡ old };
+
+    ghost Fails = { λ e old new. Unit {0} };
+
+    ghost TellsOfNode = { λ rows e. Unit {0} };
+
+    ghost TellsOfObject = { λ rows admitted e. Unit {0} };
+
+    ghost follows_itself = { λ s. refl };
+
+    ghost follows_after = { λ m n old mid new first second. second ∙ first };
+
+    ghost fails_after = { λ n e old mid new first second. tt };
+
+    fn out_of_memory(&self, memory: Memory) -> Memory {
+        memory
+    }
+
+    fn measure<R: Ruler>(
+        &mut self,
+        _id: u32,
+        place: u32,
+        ruler: &mut R,
+        q: &[u8],
+    ) -> Result<u32, Memory> {
         let rows = self.rows;
         Ok(ruler.measure(q, rows[place as usize].object.as_slice()))
     }

@@ -1,0 +1,4 @@
+pub mod Items
+pub mod Least
+pub mod Queue
+pub mod Visits

@@ -1,8 +1,0 @@
-use Rattle.std.proofs.Common.{◌≡◌, map, take}
-use Rattle.nn_query.specs.Queue.{as_waiting}
-use Rattle.nn_query.specs.Listed.{candidates_for}
-use Rattle.nn_query.proofs.Orders.{turned_back}
-use Rattle.nn_query.proofs.queue.list.Given as goal
-
-abbrev pub invariant-loop-place : goal.invariant-loop-place
-invariant-loop-place l = map turned_back l.found.items ≡ map as_waiting (candidates_for l.asked 0 (take l.place l.rows))
