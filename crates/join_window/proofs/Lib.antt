@@ -1,0 +1,2 @@
+mod Reaches
+mod Holding

@@ -1,0 +1,3 @@
+pub mod PageSets
+pub mod Damage
+pub mod Checks
