@@ -190,10 +190,13 @@ module _ (are_changed : List Entry → List Entry → Type 0) (are_corners : Lis
       changes.outside n (not_among-times n (pages_under new l root.page) (subst (λ (ns : List ℕ). IsTrue (not (is_among n ns))) (pages_at-under new root l is) not_new))
 
   pub free-after : AreFreeAfter old_pages (pages_at new root) old_free new_free
-  free-after n =
-      among-is n new_free
-      ∙ after_free (times n old_free) (times n old_pages) (times n new_free) (times n (pages_at new root)) (omega (arith, changes.moved n, ap (times n) (pages_at-under new root l is))) (own.once n)
-      ∙ ap₂ (λ (a b : Bool). a && not b) (ap₂ (λ (a b : Bool). a || b) (sym (among-is n old_free)) (sym (among-is n old_pages))) (sym (among-is n (pages_at new root)))
+  free-after = record {
+    free_are = λ n.
+        among-is n new_free
+        ∙ after_free (times n old_free) (times n old_pages) (times n new_free) (times n (pages_at new root)) (omega (arith, changes.moved n, ap (times n) (pages_at-under new root l is))) (own.once n)
+        ∙ ap₂ (λ (a b : Bool). a && not b) (ap₂ (λ (a b : Bool). a || b) (sym (among-is n old_free)) (sym (among-is n old_pages))) (sym (among-is n (pages_at new root)));
+    moved = λ n. omega (arith, changes.moved n, ap (times n) (pages_at-under new root l is));
+  }
 
   pub tree-after : root.height ≤ 5 → IsRising (list_under new l root.page) → AreNodesUnder are_corners new l root.page → IsTree are_corners new (is_live in_pool new_free) root
   tree-after low rising nodes =

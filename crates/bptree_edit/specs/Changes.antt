@@ -20,10 +20,11 @@ HaveBoxes entry_box entries = All (λ (e : Entry). IsSome (entry_box e)) entries
 abbrev pub StaysOutside : List ℕ → List ℕ → (ℕ → List ℕ) → (ℕ → List ℕ) → Type 0
 StaysOutside old_pages new_pages old new = (n : ℕ) → IsTrue (not (is_among n old_pages)) → IsTrue (not (is_among n new_pages)) → new n ≡ old n
 
--- the free pages are the old ones and the old tree's, without the new tree's
-abbrev pub AreFreeAfter : List ℕ → List ℕ → List ℕ → List ℕ → Type 0
-AreFreeAfter old_pages new_pages old_free new_free =
-    (n : ℕ) → is_among n new_free ≡ ((is_among n old_free || is_among n old_pages) && not (is_among n new_pages))
+-- the free pages are the old ones and the old tree's, without the new tree's: pages are moved between the tree and the
+-- free ones alone
+pub record AreFreeAfter (old_pages new_pages old_free new_free : List ℕ) : Type 0 where
+  pub free_are : (n : ℕ) → is_among n new_free ≡ ((is_among n old_free || is_among n old_pages) && not (is_among n new_pages))
+  pub moved : (n : ℕ) → times n old_free + times n old_pages ≡ times n new_free + times n new_pages
 
 -- ---- a part of a tree, by the counts of its pages
 

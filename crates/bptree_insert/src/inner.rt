@@ -18,9 +18,11 @@ ghost use Rattle.bptree_insert.specs.Ways.{branches_on, IsBranchAt};
 ghost use Rattle.bptree_insert.specs.declared.grown.Grown.TheVariants.{Whole};
 
 use crate::grown::{Boxed, Grown};
+use crate::node::put_node;
 use crate::way::Way;
 use bptree_edit::{Part, branch_of, branches_of, damaged, goes_before, inner_part, put_inner};
 use bptree_node::{Boxes, Branch, Entry, LEAST_BRANCHES, MOST_BRANCHES, Summary};
+use node_edit::set_branch;
 use page_laws::{PAGE_SIZE, Pages, Rule, TreeError};
 
 /// Makes of the inner node that page `n` holds, as `page`, what it is once the node under the way's
@@ -82,9 +84,9 @@ fn widen<P: Pages, S: Summary, F: Boxes<S>>(
     if is_same(&wide, &way.branch) {
         return Ok(Grown::Same);
     }
-    let mut branches = branches_of(page, n)?;
-    branches[way.at] = wide;
-    put_inner(pages, n, &branches);
+    let mut page = *page;
+    set_branch(&mut page, way.at, &wide);
+    put_node(pages, n, &page);
     Ok(Grown::Whole)
 }
 

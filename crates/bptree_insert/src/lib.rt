@@ -6,6 +6,7 @@ mod grown;
 mod inner;
 mod inserting;
 mod leaf;
+mod node;
 mod way;
 
 pub use inserting::{ENTRY_LIMIT, insert};

@@ -1,16 +1,16 @@
 -- A check that goes on from branch to branch.
-use Rattle.std.proofs.Common.{◌≡◌, ◌⊎◌, inl, inr, ℕ, zero, suc, ◌+◌, ◌-◌, ◌<◌, ◌≤◌, Bool, true, false, List, [], ◌∷◌, ◌++◌, length, take, drop, get_or, refl, sym, ap, ap₂, subst, ◌∙◌, arith, append_assoc, append-nil, length-append, take_all}
-use Rattle.std.specs.Prelude.{Contains, IsTrue, Option, Some, None}
+use Rattle.std.proofs.Common.{◌≡◌, inl, inr, ℕ, zero, suc, ◌+◌, ◌-◌, ◌<◌, ◌≤◌, Bool, true, List, [], ◌∷◌, ◌++◌, length, take, drop, get_or, refl, sym, ap, subst, ◌∙◌, arith, append_assoc, append-nil, length-append, take_all}
+use Rattle.std.specs.Prelude.{IsTrue, Option, Some}
 use Rattle.std.proofs.lemmas.Bool.{cases_eq}
 use Rattle.std.proofs.lemmas.List.{take_at, drop_at}
 use Rattle.page_laws.specs.declared.pages.Pages.{Ghosts}
 use Rattle.bptree_node.specs.declared.rows.Entry.{Entry}
 use Rattle.bptree_node.specs.declared.rows.Branch.{Branch}
-use Rattle.bptree_node.specs.Nodes.{Leaf, Inner, node_in}
+use Rattle.bptree_node.specs.Nodes.{Inner, node_in}
 use Rattle.bptree_node.specs.Summaries.{summary_of, HasCorners}
 use Rattle.bptree_node.specs.Trees.{IsRising, HasFirst}
 use Rattle.bptree_walk.proofs.Staying.{Stay, live_of}
-use Rattle.bptree_edit.specs.NodesAt.{times, list_under, pages_under, list_under_all, pages_under_all, rows_in, least_rows, IsBranchOf, AreNodesUnder, AreChildren}
+use Rattle.bptree_edit.specs.NodesAt.{times, list_under, pages_under, list_under_all, pages_under_all, rows_in, least_rows, IsBranchOf}
 use Rattle.bptree_edit.proofs.Counts.{times-cons, times-none, one_if, one_other}
 use Rattle.bptree_edit.proofs.Under.{list-leaf, pages-leaf, list-inner, pages-inner, list_all-append, list_all-none, times_all-append, times_all-none, children-append, children-cons, children-none, nodes-of, of-leaf}
 use Rattle.bptree_edit.proofs.Branches.{single_list, single_times}
@@ -18,7 +18,7 @@ use Rattle.bptree_edit.proofs.Reaching.{times_around}
 use Rattle.tree_check.specs.declared.node.Checked.{Checked}
 use Rattle.tree_check.specs.declared.node.Spot.{Spot}
 use Rattle.tree_check.specs.PageSets.{Marks, uses, HasSameRange}
-use Rattle.tree_check.specs.Checks.{Gathers, IsChecked, AreChecked, IsMatched, IsLeafChecked, has_first}
+use Rattle.tree_check.specs.Checks.{IsChecked, AreChecked, IsMatched, IsLeafChecked, has_first}
 use Rattle.tree_check.specs.Damage.{ends_before}
 use Rattle.tree_check.proofs.Order.{first-known, rising-joined}
 

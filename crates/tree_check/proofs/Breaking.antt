@@ -1,7 +1,8 @@
 -- What is broken under a node, and what is broken under its parent for it.
-use Rattle.std.proofs.Common.{◌≡◌, ◌⊎◌, inl, inr, ℕ, zero, suc, ◌+◌, ◌<◌, ◌≤◌, Bool, true, false, List, [], ◌∷◌, ◌++◌, length, take, drop, get_or, Ok, Err, refl, sym, ap, subst, ◌∙◌, arith}
-use Rattle.std.specs.Prelude.{Contains, Option, Some, None, map}
-use Rattle.std.specs.List.{flat_map}
+use Rattle.std.proofs.Common.{◌≡◌, ◌⊎◌, inl, inr, ℕ, zero, suc, ◌+◌, ◌<◌, ◌≤◌, Bool, false, List, [], ◌∷◌, length, take, drop, get_or, refl, sym, ap, subst, ◌∙◌, arith}
+use Rattle.std.specs.Prelude.{Contains, IsSome, IsTrue, Option, Some, None, map}
+use Rattle.std.specs.List.{flat_map, AllByRecursion}
+use Rattle.std.proofs.lemmas.List.Elements.{All-from_recursion}
 use Rattle.page_laws.specs.declared.errors.TreeError.{TreeError}
 use Rattle.page_laws.specs.declared.errors.TreeError.TheVariants as tree
 use Rattle.page_laws.specs.declared.rule.Rule.{Rule}
@@ -15,13 +16,29 @@ use Rattle.bptree_node.specs.TreeLaws.{limb_at}
 use Rattle.bptree_walk.proofs.Lists.{first_among, among_rest, among_lists}
 use Rattle.bptree_walk.proofs.Parts.{root_placed, places_are}
 use Rattle.bptree_walk.specs.Damage.{is_node_of}
-use Rattle.bptree_edit.specs.NodesAt.{list_under, list_under_all, pages_under, times, rows_in, least_rows}
+use Rattle.bptree_edit.specs.NodesAt.{list_under, list_under_all, rows_in, least_rows}
 use Rattle.bptree_edit.proofs.Reaching.{around}
-use Rattle.bptree_edit.proofs.Under.{own_page}
 use Rattle.tree_check.specs.declared.node.Checked.{Checked}
 use Rattle.tree_check.specs.Checks.{IsUnmatched, IsLeafBroken}
 use Rattle.tree_check.specs.Damage.{places_under, IsPlaced, IsLost, Breaks, TellsBreak, ends_before}
 use Rattle.tree_check.proofs.Order.{first-never}
+
+-- where entries have a summary, each has one
+module _ {S : Type 0} (joined : S → S → S) (entry_box : Entry → Option S) where
+  pub boxes-there : (es : List Entry) (s : S) → summary_of joined entry_box es ≡ Some s → AllByRecursion (λ (e : Entry). IsSome (entry_box e)) es
+  boxes-there [] s is = tt
+  boxes-there (e ∷ []) s is = (one (entry_box e) is, tt)
+    where
+      one : (a : Option S) → a ≡ Some s → IsSome a
+      one (Some x) is = refl
+      one None is = absurd (cc)
+  boxes-there (e ∷ f ∷ es) s is = both (entry_box e) (summary_of joined entry_box (f ∷ es)) is (λ t deep. boxes-there (f ∷ es) t deep)
+    where
+      both : (a b : Option S) → joined_options joined a b ≡ Some s → ((t : S) → b ≡ Some t → AllByRecursion (λ (e : Entry). IsSome (entry_box e)) (f ∷ es))
+          → IsSome a × AllByRecursion (λ (e : Entry). IsSome (entry_box e)) (f ∷ es)
+      both (Some x) (Some y) is deep = (refl, deep y refl)
+      both (Some x) None is deep = absurd (cc)
+      both None b is deep = absurd (cc)
 
 module _ (pages : ℕ → List ℕ) where
   -- a node is placed under itself
@@ -88,8 +105,15 @@ module _ (pages : ℕ → List ℕ) where
       are = is.are;
       misplaced = is.misplaced;
     })
-    breaks-up rule.Key is = record { placed = up 0 page is.placed; entry = is.entry; among = is.among; none = is.none }
-    breaks-up rule.Box is = record { level = is.level; placed = up (suc is.level) page is.placed; branch = is.branch; among = is.among; other = is.other }
+    breaks-up rule.Key is = record { placed = up 0 page is.placed; alive = is.alive; entry = is.entry; among = is.among; none = is.none }
+    breaks-up rule.Box is = record {
+      level = is.level;
+      placed = up (suc is.level) page is.placed;
+      branch = is.branch;
+      among = is.among;
+      boxed = is.boxed;
+      other = is.other;
+    }
     breaks-up rule.Slot none = none
     breaks-up rule.Match none = none
 
@@ -139,16 +163,16 @@ module _ {S : Type 0} (joined : S → S → S) (entry_box : Entry → Option S) 
   lost-tells l why is lost = subst (Tells l) (sym is) (inl (refl, lost))
 
   -- a leaf that breaks a rule
-  pub leaf-tells : (why : TreeError) → (IsLeafBroken joined entry_box n (pages n) why ⊎ (why ≡ tree.Memory)) → Tells 0 why
-  leaf-tells why (inr is) = subst (Tells 0) (sym is) tt
-  leaf-tells why (inl (inl other)) = subst (Tells 0) (sym other.0) (record { level = 0; placed = here pages 0 n; none = no_leaf (node_in (pages n)) other.1 })
-  leaf-tells why (inl (inr (es, (node, inl order)))) =
+  pub leaf-tells : IsTrue (live n) → (why : TreeError) → (IsLeafBroken joined entry_box n (pages n) why ⊎ (why ≡ tree.Memory)) → Tells 0 why
+  leaf-tells alive why (inr is) = subst (Tells 0) (sym is) tt
+  leaf-tells alive why (inl (inl other)) = subst (Tells 0) (sym other.0) (record { level = 0; placed = here pages 0 n; none = no_leaf (node_in (pages n)) other.1 })
+  leaf-tells alive why (inl (inr (es, (node, inl order)))) =
       subst (Tells 0) (sym order.0)
       (inl (record { placed = here pages 0 n; disorder = λ rising. order.1 (subst IsRising (ap node_entries node) rising) }))
-  leaf-tells why (inl (inr (es, (node, inr key)))) =
+  leaf-tells alive why (inl (inr (es, (node, inr key)))) =
       let found = none_found joined entry_box es key.1 key.2 in
       subst (Tells 0) (sym key.0)
-      (record { placed = here pages 0 n; entry = found.0; among = subst (λ (xs : List Entry). Contains xs found.0) (sym (ap node_entries node)) found.1.0; none = found.1.1 })
+      (record { placed = here pages 0 n; alive = alive; entry = found.0; among = subst (λ (xs : List Entry). Contains xs found.0) (sym (ap node_entries node)) found.1.0; none = found.1.1 })
 
   -- no inner node
   pub inner-tells : (l : ℕ) (why : TreeError) → (why ≡ tree.Damaged n rule.Node) → ((branches : List Branch) → node_in (pages n) ≡ Some (Inner branches) → ⊥) → Tells (suc l) why
@@ -187,6 +211,8 @@ module _ {S : Type 0} (joined : S → S → S) (entry_box : Entry → Option S) 
           placed = here pages (suc l) n;
           branch = get_or bs i d;
           among = among;
+          boxed = All-from_recursion (λ (e : Entry). IsSome (entry_box e)) (list_under pages l (get_or bs i d).child)
+              (boxes-there joined entry_box (list_under pages l (get_or bs i d).child) child.summary summary);
           other = λ has.
               let both : Some child.summary ≡ Some has.summary = sym summary ∙ has.is in
               let same : child.summary ≡ has.summary = cc in

@@ -1,13 +1,13 @@
 -- Entries in order: the last one of some, and one more behind them.
-use Rattle.std.proofs.Common.{◌≡◌, ℕ, zero, suc, ◌+◌, ◌-◌, ◌<◌, ◌≤◌, ◌==◌, Bool, true, false, ◌&&◌, List, [], ◌∷◌, ◌++◌, length, take, drop, get_or, refl, sym, ap, subst, ◌∙◌, arith, take_all}
-use Rattle.std.specs.Prelude.{IsTrue, Option, Some, None}
-use Rattle.std.specs.List.{AllByRecursion, slice_get}
+use Rattle.std.proofs.Common.{◌≡◌, ℕ, zero, suc, ◌+◌, ◌-◌, ◌<◌, ◌==◌, true, false, List, [], ◌∷◌, ◌++◌, length, take, drop, get_or, refl, sym, ap, subst, ◌∙◌, arith}
+use Rattle.std.specs.Prelude.{IsTrue, Some}
+use Rattle.std.specs.List.{slice_get}
 use Rattle.std.proofs.lemmas.Bool.{and_parts, false≢true}
 use Rattle.std.proofs.lemmas.Bool.Decides.{nat_tests}
 use Rattle.std.proofs.lemmas.List.{take_more, take-append-drop}
 use Rattle.std.proofs.lemmas.Option.{slice_get_within}
 use Rattle.bptree_node.specs.declared.rows.Entry.{Entry}
-use Rattle.bptree_node.specs.EntryLaws.{AreBefore, AreBehind, AreApart, before_before, rising-append, rising-front, rising-back, rising-apart, behind-further}
+use Rattle.bptree_node.specs.EntryLaws.{AreBefore, AreBehind, AreApart, before_before, rising-append, rising-front, rising-apart, behind-further}
 use Rattle.bptree_node.specs.Trees.{goes_before, IsRising, HasFirst}
 use Rattle.tree_check.specs.Checks.{has_first}
 use Rattle.tree_check.specs.Damage.{ends_before}

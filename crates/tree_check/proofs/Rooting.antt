@@ -1,20 +1,21 @@
 -- A tree that was checked, from its root.
-use Rattle.std.proofs.Common.{◌≡◌, ℕ, zero, suc, ◌+◌, ◌-◌, ◌<◌, ◌≤◌, ◌==◌, Bool, true, false, List, [], ◌∷◌, ◌++◌, length, Ok, Err, refl, sym, ap, subst, ◌∙◌, arith, append-nil}
-use Rattle.std.specs.Prelude.{IsTrue, IsSome, All, Option, Some, None, Result, cond}
+use Rattle.std.proofs.Common.{◌≡◌, ℕ, suc, ◌+◌, ◌≤◌, ◌==◌, Bool, true, false, List, [], ◌++◌, Ok, refl, sym, ap, subst, ◌∙◌, arith, append-nil}
+use Rattle.std.specs.Prelude.{IsTrue, IsSome, All, Option, cond}
 use Rattle.std.specs.List.{AllByRecursion, IsDistinct}
 use Rattle.std.proofs.lemmas.List.Elements.{All-from_recursion}
 use Rattle.page_laws.specs.declared.errors.TreeError.{TreeError}
 use Rattle.page_laws.specs.declared.root.Root.{Root}
 use Rattle.bptree_node.specs.declared.rows.Entry.{Entry}
-use Rattle.bptree_node.specs.Summaries.{joined_options, summary_of, HasCorners}
-use Rattle.bptree_node.specs.Trees.{IsSound, IsSoundAt, HaveCornersAt, IsRising, IsTree, tree_at, list_of, pages_of, at_root, list_at, pages_at}
+use Rattle.bptree_node.specs.Summaries.{HasCorners}
+use Rattle.bptree_node.specs.Trees.{IsSound, IsSoundAt, HaveCornersAt, IsRising, tree_at, list_of, pages_of, at_root, list_at, pages_at}
 use Rattle.bptree_edit.specs.NodesAt.{times, list_under, pages_under}
 use Rattle.bptree_edit.proofs.Counts.{times-none, times-all, times-distinct}
 use Rattle.bptree_edit.proofs.Rooted.{nodes-told, list_at-under, pages_at-under}
 use Rattle.tree_check.specs.declared.node.Checked.{Checked}
 use Rattle.tree_check.specs.PageSets.{Marks, has, uses}
-use Rattle.tree_check.specs.Checks.{Gathers, IsChecked, IsSoundTree, ChecksTree, TellsBreakAt}
+use Rattle.tree_check.specs.Checks.{IsChecked, ChecksTree, TellsBreakAt}
 use Rattle.tree_check.specs.Damage.{TellsBreak}
+use Rattle.tree_check.proofs.Breaking.{boxes-there}
 
 -- a page is at most once in a set
 pub uses-once : (s : Marks) (m : ℕ) → uses s m ≤ 1
@@ -25,22 +26,6 @@ uses-once s m = either (has s m) refl
     either false is = let none : uses s m ≡ 0 = ap (λ (c : Bool). cond c 1 0) is in omega (arith, none)
 
 module _ {S : Type 0} (joined : S → S → S) (entry_box : Entry → Option S) (keys : S → ℕ × ℕ) where
-  -- where entries have a summary, each has one
-  boxes-there : (es : List Entry) (s : S) → summary_of joined entry_box es ≡ Some s → AllByRecursion (λ (e : Entry). IsSome (entry_box e)) es
-  boxes-there [] s is = tt
-  boxes-there (e ∷ []) s is = (one (entry_box e) is, tt)
-    where
-      one : (a : Option S) → a ≡ Some s → IsSome a
-      one (Some x) is = refl
-      one None is = absurd (cc)
-  boxes-there (e ∷ f ∷ es) s is = both (entry_box e) (summary_of joined entry_box (f ∷ es)) is (λ t deep. boxes-there (f ∷ es) t deep)
-    where
-      both : (a b : Option S) → joined_options joined a b ≡ Some s → ((t : S) → b ≡ Some t → AllByRecursion (λ (e : Entry). IsSome (entry_box e)) (f ∷ es))
-          → IsSome a × AllByRecursion (λ (e : Entry). IsSome (entry_box e)) (f ∷ es)
-      both (Some x) (Some y) is deep = (refl, deep y refl)
-      both (Some x) None is deep = absurd (cc)
-      both None b is deep = absurd (cc)
-
   module _ (pages : ℕ → List ℕ) (live : ℕ → Bool) (root : Root) (old_used used : Marks) (old new : List Entry) where
     -- the empty tree
     pub empty-checks : root.height ≡ 0 → root.page ≡ 0 → ChecksTree joined entry_box keys pages live root old_used old_used old old (Ok tt)
@@ -92,7 +77,7 @@ module _ {S : Type 0} (joined : S → S → S) (entry_box : Entry → Option S) 
                 corners = subst (λ (h : ℕ). HaveCornersAt (HasCorners joined entry_box keys) pages h root.page) (sym is) known.corners;
               };
               keys_are = subst (All (λ (e : Entry). IsSome (entry_box e))) (sym list)
-                  (All-from_recursion (λ (e : Entry). IsSome (entry_box e)) (list_under pages l root.page) (boxes-there (list_under pages l root.page) checked.summary checks.summary));
+                  (All-from_recursion (λ (e : Entry). IsSome (entry_box e)) (list_under pages l root.page) (boxes-there joined entry_box (list_under pages l root.page) checked.summary checks.summary));
               unused = λ m. omega (arith, counts m, checks.gathers.used m, uses-once used m);
             },
             record {

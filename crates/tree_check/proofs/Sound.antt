@@ -1,5 +1,5 @@
 -- In a sound tree no page breaks a rule.
-use Rattle.std.proofs.Common.{◌≡◌, ◌⊎◌, inl, inr, ℕ, zero, suc, ◌+◌, ◌<◌, ◌≤◌, ◌==◌, Bool, true, false, List, [], ◌∷◌, ◌++◌, length, refl, sym, ap, subst, ◌∙◌, arith}
+use Rattle.std.proofs.Common.{◌≡◌, inl, inr, ℕ, zero, suc, ◌+◌, ◌<◌, ◌≤◌, Bool, true, List, [], ◌∷◌, ◌++◌, sym, ap, subst, ◌∙◌, arith}
 use Rattle.std.specs.Prelude.{Contains, IsTrue, IsSome, Option, Some, None, map}
 use Rattle.std.specs.List.{flat_map, AllByRecursion}
 use Rattle.std.proofs.lemmas.Bool.{false≢true}
@@ -14,14 +14,14 @@ use Rattle.bptree_node.specs.declared.rows.Entry.{Entry}
 use Rattle.bptree_node.specs.declared.rows.Branch.{Branch}
 use Rattle.bptree_node.specs.EntryLaws.{rising-front, rising-back}
 use Rattle.bptree_node.specs.Lists.{all-front, all-back}
-use Rattle.bptree_node.specs.Nodes.{Node, Leaf, Inner, node_in}
+use Rattle.bptree_node.specs.Nodes.{Inner, node_in}
 use Rattle.bptree_node.specs.Summaries.{HasCorners}
 use Rattle.bptree_node.specs.Trees.{Tree, Limb, Place, tree_at, places_of, node_entries, node_branches, IsRising, HasFirst}
 use Rattle.bptree_node.specs.TreeLaws.{limb_at}
 use Rattle.bptree_walk.proofs.Lists.{first_among, among_cases, of_one}
 use Rattle.bptree_walk.proofs.Parts.{places_are}
 use Rattle.bptree_walk.specs.Damage.{is_node_of}
-use Rattle.bptree_edit.specs.NodesAt.{times, list_under, pages_under, list_under_all, pages_under_all, rows_in, least_rows, IsBranchOf, AreNodesUnder, AreChildren}
+use Rattle.bptree_edit.specs.NodesAt.{times, list_under, pages_under, list_under_all, pages_under_all, rows_in, IsBranchOf, AreNodesUnder, AreChildren}
 use Rattle.bptree_edit.proofs.Counts.{all-times, times-cons}
 use Rattle.bptree_edit.proofs.Rooted.{tree-nodes, by-recursion, list_at-under, pages_at-under}
 use Rattle.bptree_edit.proofs.Under.{own_page, list-leaf, list-inner, pages-inner, list_all-cons, list_all-append, times_all-cons, children-first, children-others, children-of, leaf-of, inner-of}

@@ -1,5 +1,5 @@
 -- The steps of a check, over pages that stay as they were.
-use Rattle.std.proofs.Common.{◌≡◌, ◌⊎◌, inl, inr, ℕ, zero, suc, ◌+◌, ◌-◌, ◌<◌, ◌≤◌, Bool, true, false, List, [], ◌∷◌, ◌++◌, length, take, drop, get_or, Ok, Err, refl, sym, ap, subst, ◌∙◌, arith, take_all, length-append}
+use Rattle.std.proofs.Common.{◌≡◌, ◌⊎◌, inr, ℕ, zero, suc, ◌+◌, ◌-◌, ◌<◌, ◌≤◌, Bool, true, List, [], ◌∷◌, ◌++◌, length, take, drop, get_or, Ok, Err, refl, sym, ap, subst, ◌∙◌, arith, take_all, length-append}
 use Rattle.std.specs.Prelude.{Contains, IsTrue, Option, Some, None, Result, OnOk, cond}
 use Rattle.std.proofs.lemmas.List.{take_more}
 use Rattle.std.proofs.lemmas.List.Elements.{Contains-get_or}
@@ -52,7 +52,7 @@ module _ {S : Type 0} (joined : S → S → S) (entry_box : Entry → Option S) 
       (subst (λ (p : List ℕ). IsLeafChecked joined entry_box p old new checked) is checks))
   leaf-checks used old new page (Err why) lowest is more alive checks =
       subst (λ (l : ℕ). TellsBreak entry_box (HasCorners joined entry_box keys) pages live Reached at.parent l at.page why) (sym lowest)
-      (leaf-tells joined entry_box keys pages live Reached at.parent at.page why
+      (leaf-tells joined entry_box keys pages live Reached at.parent at.page alive why
       (subst (λ (p : List ℕ). IsLeafBroken joined entry_box at.page p why ⊎ (why ≡ tree.Memory)) is checks))
 
   -- no inner node

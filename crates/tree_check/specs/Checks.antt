@@ -3,7 +3,6 @@ use Rattle.std.specs.Prelude.{◌≡◌, ◌⊎◌, ℕ, zero, suc, ◌+◌, ◌
 use Rattle.page_laws.specs.declared.errors.TreeError.{TreeError}
 use Rattle.page_laws.specs.declared.errors.TreeError.TheVariants as tree
 use Rattle.page_laws.specs.declared.root.Root.{Root}
-use Rattle.page_laws.specs.declared.rule.Rule.{Rule}
 use Rattle.page_laws.specs.declared.rule.Rule.TheVariants as rule
 use Rattle.bptree_node.specs.declared.rows.Entry.{Entry}
 use Rattle.bptree_node.specs.declared.rows.Branch.{Branch}

@@ -1,5 +1,5 @@
 -- What is wrong with a tree, and which page and which rule are named for it.
-use Rattle.std.specs.Prelude.{◌≡◌, ◌⊎◌, ℕ, suc, ◌≤◌, ◌<◌, Bool, true, false, IsTrue, ◌&&◌, ◌==◌, List, [], ◌∷◌, ◌++◌, Option, None, Contains}
+use Rattle.std.specs.Prelude.{◌≡◌, ◌⊎◌, ℕ, suc, ◌≤◌, ◌<◌, Bool, true, false, IsTrue, List, [], ◌∷◌, ◌++◌, Option, None, Contains}
 use Rattle.page_laws.specs.declared.errors.TreeError.{TreeError}
 use Rattle.page_laws.specs.declared.errors.TreeError.TheVariants as tree
 use Rattle.page_laws.specs.declared.rule.Rule.{Rule}
@@ -9,6 +9,7 @@ use Rattle.bptree_node.specs.declared.rows.Branch.{Branch}
 use Rattle.bptree_node.specs.Nodes.{node_in}
 use Rattle.bptree_node.specs.Trees.{Place, tree_at, places_of, node_entries, node_branches, goes_before, IsRising, HasFirst}
 use Rattle.bptree_walk.specs.Damage.{is_node_of}
+use Rattle.bptree_edit.specs.Changes.{HaveBoxes}
 use Rattle.bptree_edit.specs.NodesAt.{list_under, list_under_all, rows_in, least_rows}
 
 -- ---- where nodes are
@@ -76,19 +77,21 @@ module _ (pages : ℕ → List ℕ) (l n : ℕ) (page : ℕ) where
     pub are : node_branches (node_in (pages page)) ≡ front ++ branch ∷ back
     pub misplaced : (HasFirst branch.key branch.id (list_under pages level branch.child) → ⊥) ⊎ (ends_before branch.key branch.id (list_under_all pages level front) ≡ false)
 
-  -- an entry of the leaf has a key that is none of the tree
-  pub record HasForeignKey {S : Type 0} (entry_box : Entry → Option S) : Type 0 where
+  -- the leaf is live, and an entry of it has a key that is none of the tree
+  pub record HasForeignKey {S : Type 0} (live : ℕ → Bool) (entry_box : Entry → Option S) : Type 0 where
     pub placed : IsPlaced pages l n 0 page
+    pub alive : IsTrue (live page)
     pub entry : Entry
     pub among : Contains (node_entries (node_in (pages page))) entry
     pub none : entry_box entry ≡ None
 
-  -- the corners of a branch of the inner node aren't those of the box around what is under it
-  pub record HasOtherBox (are_corners : List Entry → ℕ → ℕ → Type 0) : Type 0 where
+  -- all entries under a branch of the inner node have keys of the tree, and its corners aren't those of the box around them
+  pub record HasOtherBox {S : Type 0} (entry_box : Entry → Option S) (are_corners : List Entry → ℕ → ℕ → Type 0) : Type 0 where
     pub level : ℕ
     pub placed : IsPlaced pages l n (suc level) page
     pub branch : Branch
     pub among : Contains (node_branches (node_in (pages page))) branch
+    pub boxed : HaveBoxes entry_box (list_under pages level branch.child)
     pub other : are_corners (list_under pages level branch.child) branch.low branch.high → ⊥
 
 -- The page breaks the rule, in the tree that page `n` at level `l` and those under it are, which `parent` names, where
@@ -102,8 +105,8 @@ Breaks entry_box are_corners pages live reached parent l n page rule.Page = ((pa
 Breaks entry_box are_corners pages live reached parent l n page rule.Node = IsNoNode pages l n page
 Breaks entry_box are_corners pages live reached parent l n page rule.Fill = IsUnfilled pages l n page
 Breaks entry_box are_corners pages live reached parent l n page rule.Order = HasDisorder pages l n page ⊎ HasMisplaced pages l n page
-Breaks entry_box are_corners pages live reached parent l n page rule.Key = HasForeignKey pages l n page entry_box
-Breaks entry_box are_corners pages live reached parent l n page rule.Box = HasOtherBox pages l n page are_corners
+Breaks entry_box are_corners pages live reached parent l n page rule.Key = HasForeignKey pages l n page live entry_box
+Breaks entry_box are_corners pages live reached parent l n page rule.Box = HasOtherBox pages l n page entry_box are_corners
 Breaks entry_box are_corners pages live reached parent l n page rule.Slot = ⊥
 Breaks entry_box are_corners pages live reached parent l n page rule.Match = ⊥
 

@@ -1,16 +1,12 @@
-use Rattle.std.proofs.Common.{rules, ◌≡◌, inl, ℕ, ◌+◌, ◌-◌, ◌<◌, ◌≤◌, true, false, List, [], ◌∷◌, length, take, drop, get_or, Ok, Err, refl, sym, ap, subst, ◌∙◌, arith}
-use Rattle.std.specs.Prelude.{IsTrue, Some, not, Result}
-use Rattle.page_laws.specs.declared.errors.TreeError.{TreeError}
-use Rattle.page_laws.specs.Pages.{is_live}
-use Rattle.bptree_node.specs.declared.rows.Entry.{Entry}
+use Rattle.std.proofs.Common.{rules, ◌≡◌, ◌+◌, ◌-◌, ◌≤◌, List, length, sym, ap, ◌∙◌, arith}
+use Rattle.std.specs.Prelude.{IsTrue, Some}
 use Rattle.bptree_node.specs.declared.rows.Branch.{Branch}
 use Rattle.bptree_node.specs.Nodes.{Inner, node_in}
 use Rattle.bptree_node.specs.Summaries.{HasCorners, summary_of}
 use Rattle.bptree_edit.specs.NodesAt.{times, pages_under, least_rows}
 use Rattle.bptree_edit.proofs.Summing.{join_of_laws}
-use Rattle.bptree_walk.proofs.Staying.{live_of, stays_on, stays_same}
+use Rattle.bptree_walk.proofs.Staying.{live_of, stays_on}
 use Rattle.tree_check.specs.PageSets.{uses, has}
-use Rattle.tree_check.specs.Checks.{Checks, IsMatched, IsUnmatched}
 use Rattle.tree_check.specs.Damage.{TellsBreak}
 use Rattle.tree_check.proofs.Sets.{uses-more, was_there, was_new}
 use Rattle.tree_check.proofs.Advancing.{none-checked}

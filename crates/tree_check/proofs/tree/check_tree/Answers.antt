@@ -1,4 +1,4 @@
-use Rattle.std.proofs.Common.{rules, ◌≡◌, suc, ◌-◌, sym}
+use Rattle.std.proofs.Common.{rules, ◌-◌, sym}
 use Rattle.bptree_walk.proofs.Staying.{live_of}
 use Rattle.tree_check.specs.Checks.{TellsBreakAt}
 use Rattle.bptree_node.specs.Summaries.{HasCorners}

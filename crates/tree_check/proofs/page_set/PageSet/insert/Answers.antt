@@ -1,4 +1,4 @@
-use Rattle.std.proofs.Common.{◌≡◌, ◌==◌, ◌||◌, ℕ, ◌-◌, IsTrue, true, slice_set, sym, subst}
+use Rattle.std.proofs.Common.{◌≡◌, ◌==◌, ◌||◌, IsTrue, sym, subst}
 use Rattle.tree_check.specs.PageSets.{Marks, covers, has}
 use Rattle.tree_check.proofs.Sets.{marked, members}
 use Rattle.tree_check.proofs.page_set.PageSet.insert.Goals as goal

@@ -1,0 +1,2 @@
+mod GrownTrees
+mod PagesUsed

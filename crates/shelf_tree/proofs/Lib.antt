@@ -1,0 +1,4 @@
+mod Putting
+mod Within
+mod Bounding
+mod Opening

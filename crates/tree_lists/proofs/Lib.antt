@@ -1,0 +1,4 @@
+pub mod Orders
+pub mod Changes
+pub mod Finding
+pub mod Counting

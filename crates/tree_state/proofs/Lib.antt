@@ -1,0 +1,4 @@
+pub mod Moving
+pub mod Members
+pub mod Cells
+pub mod Starting

@@ -1,0 +1,4 @@
+pub mod StoreCurves
+pub mod TreeEntries
+pub mod StoreTrees
+pub mod Worked
