@@ -1,0 +1,7 @@
+pub mod Listing
+pub mod Holding
+pub mod Eight
+pub mod Whole
+pub mod Kept
+pub mod Matched
+pub mod Naming
