@@ -1,0 +1,6 @@
+//! Objects of a store, by its trees.
+#![tactic(auto)]
+
+mod getting;
+
+pub use getting::object_of;
