@@ -21,16 +21,16 @@ module _ (home : ℕ → List ℕ) (m : ℕ) where
   part : (r : Root) (rs : List Root) → times m (tree_pages home (r ∷ rs)) ≡ times m (pages_at home r) + times m (tree_pages home rs)
   part r rs = times-append m (pages_at home r) (tree_pages home rs)
 
-  eight_pages : (roots : List Root) → length roots ≡ 8 → times m (tree_pages home roots) ≡ times_before home roots 0 4 m + times_before home roots 4 4 m
-  eight_pages [] long = absurd (cc)
-  eight_pages (a ∷ []) long = absurd (omega (arith, long))
-  eight_pages (a ∷ b ∷ []) long = absurd (omega (arith, long))
-  eight_pages (a ∷ b ∷ c ∷ []) long = absurd (omega (arith, long))
-  eight_pages (a ∷ b ∷ c ∷ d ∷ []) long = absurd (omega (arith, long))
-  eight_pages (a ∷ b ∷ c ∷ d ∷ e ∷ []) long = absurd (omega (arith, long))
-  eight_pages (a ∷ b ∷ c ∷ d ∷ e ∷ f ∷ []) long = absurd (omega (arith, long))
-  eight_pages (a ∷ b ∷ c ∷ d ∷ e ∷ f ∷ g ∷ []) long = absurd (omega (arith, long))
-  eight_pages (a ∷ b ∷ c ∷ d ∷ e ∷ f ∷ g ∷ h ∷ []) long =
+  pub eight-pages : (roots : List Root) → length roots ≡ 8 → times m (tree_pages home roots) ≡ times_before home roots 0 4 m + times_before home roots 4 4 m
+  eight-pages [] long = absurd (cc)
+  eight-pages (a ∷ []) long = absurd (omega (arith, long))
+  eight-pages (a ∷ b ∷ []) long = absurd (omega (arith, long))
+  eight-pages (a ∷ b ∷ c ∷ []) long = absurd (omega (arith, long))
+  eight-pages (a ∷ b ∷ c ∷ d ∷ []) long = absurd (omega (arith, long))
+  eight-pages (a ∷ b ∷ c ∷ d ∷ e ∷ []) long = absurd (omega (arith, long))
+  eight-pages (a ∷ b ∷ c ∷ d ∷ e ∷ f ∷ []) long = absurd (omega (arith, long))
+  eight-pages (a ∷ b ∷ c ∷ d ∷ e ∷ f ∷ g ∷ []) long = absurd (omega (arith, long))
+  eight-pages (a ∷ b ∷ c ∷ d ∷ e ∷ f ∷ g ∷ h ∷ []) long =
       let n : Root → ℕ = λ (r : Root). times m (pages_at home r) in
       let t : List Root → ℕ = λ (rs : List Root). times m (tree_pages home rs) in
       add_eight (t (a ∷ b ∷ c ∷ d ∷ e ∷ f ∷ g ∷ h ∷ [])) (n a) (n b) (n c) (n d) (n e) (n f) (n g) (n h)
@@ -44,12 +44,12 @@ module _ (home : ℕ → List ℕ) (m : ℕ) where
       (part g (h ∷ []))
       (part h [])
       (times-none m)
-  eight_pages (a ∷ b ∷ c ∷ d ∷ e ∷ f ∷ g ∷ h ∷ i ∷ rest) long = absurd (few_of (length rest) long)
+  eight-pages (a ∷ b ∷ c ∷ d ∷ e ∷ f ∷ g ∷ h ∷ i ∷ rest) long = absurd (few_of (length rest) long)
 
   pub pages-once : (roots : List Root) → length roots ≡ 8 → (used : Marks) → uses used m ≡ times_before home roots 0 4 m + times_before home roots 4 4 m
       → times m (tree_pages home roots) ≤ 1
   pages-once roots eight used is =
-      once (times m (tree_pages home roots)) (uses used m) (times_before home roots 0 4 m + times_before home roots 4 4 m) (eight_pages roots eight) is (uses-once used m)
+      once (times m (tree_pages home roots)) (uses used m) (times_before home roots 0 4 m + times_before home roots 4 4 m) (eight-pages roots eight) is (uses-once used m)
     where
       once : (t u s : ℕ) → t ≡ s → u ≡ s → u ≤ 1 → t ≤ 1
       once t u s all same most = omega (arith, all, same, most)

@@ -1,7 +1,7 @@
 -- What a pass over the pairs of a tree's entries says to be damaged.
-use Rattle.std.proofs.Common.{◌≡◌, ℕ, Bool, true, false, List, refl, sym, ap, subst, ◌∙◌, inl, inr}
-use Rattle.std.specs.Prelude.{nat_lt, if◌then◌else◌, filter, All, Contains, ◌⊎◌}
-use Rattle.std.proofs.lemmas.List.Elements.{All-contains, All-filter}
+use Rattle.std.proofs.Common.{◌≡◌, ℕ, Bool, true, false, List, refl, sym, subst, inl, inr}
+use Rattle.std.specs.Prelude.{nat_lt, if◌then◌else◌, All, Contains}
+use Rattle.std.proofs.lemmas.List.Elements.{All-contains}
 use Rattle.metric_laws.specs.Objects.{Object}
 use Rattle.page_laws.specs.Errors.{TellsNoDamage}
 use Rattle.page_laws.specs.declared.errors.TreeError.{TreeError}
@@ -12,7 +12,7 @@ use Rattle.bptree_node.specs.declared.rows.Entry.{Entry}
 use Rattle.bptree_node.specs.Trees.{IsBPlusTree, list_at}
 use Rattle.bptree_walk.specs.Damage.{TellsDamage, TellsWalkRule}
 use Rattle.object_file.specs.ObjectFile.{Slots}
-use Rattle.range_entries.specs.Entries.{HasNoKey, HasNoSlot, TellsEntryRule}
+use Rattle.range_entries.specs.Entries.{TellsEntryRule}
 use Rattle.join_window.specs.declared.window.Reaching.{Reaching}
 use Rattle.join_step.specs.declared.placing.Placing.TheVariants.{ByIds}
 use Rattle.join_step.specs.Meetings.{reaching, placed}

@@ -1,11 +1,9 @@
 -- A pass over the pairs of the entries that a cursor gives.
-use Rattle.std.proofs.Common.{◌≡◌, ℕ, ◌+◌, ◌*◌, ◌-◌, ◌≤◌, ◌<◌, Bool, List, [], ◌∷◌, ◌++◌, length, Option, Ok, refl, sym, ap, ap₂, subst, ◌∙◌, arith}
-use Rattle.std.specs.Prelude.{IsTrue, filter, map, count_by, sum_by, ◌^◌, Contains, All}
-use Rattle.std.specs.List.{flat_map}
+use Rattle.std.proofs.Common.{◌≡◌, ℕ, ◌+◌, ◌*◌, ◌-◌, ◌≤◌, ◌<◌, List, [], ◌∷◌, ◌++◌, length, refl, sym, ap, subst, ◌∙◌, arith}
+use Rattle.std.specs.Prelude.{IsTrue, filter, ◌^◌, Contains, All}
 use Rattle.std.proofs.lemmas.List.{append_assoc, append-nil, length-append, length-map}
 use Rattle.std.proofs.lemmas.List.Elements.{All-push, All-filter, All-nil, Contains-append_left, Contains-append_right, Contains-push}
 use Rattle.std.proofs.lemmas.List.Sums.{length-filter, count_by-le-length}
-use Rattle.metric_laws.specs.Log.{MeasuredPair}
 use Rattle.metric_laws.specs.declared.ruler.Ruler as ruler
 use Rattle.page_laws.specs.Errors.{TellsNoDamage}
 use Rattle.page_laws.specs.Pages.{count_after, count_after-add}
@@ -21,7 +19,6 @@ use Rattle.bptree_walk.proofs.Gathering.{begun_sound}
 use Rattle.bptree_walk.proofs.Stacks.{begun_most, begun_part}
 use Rattle.bptree_walk.proofs.Staying.{Stay, live_of, stays_same, stays_on, known_on, as_before}
 use Rattle.query_pass.specs.declared.found.Found.{Found}
-use Rattle.query_pass.specs.Findings.{PassesOver, MeasuresOpen}
 use Rattle.query_pass.specs.PassLaws.{PassesOver-none, MeasuresOpen-none}
 use Rattle.query_pass.specs.Pairs.{verdict_of_pair, pair_ids, pair_objects}
 use Rattle.object_file.specs.ObjectFile.{Slots}

@@ -1,5 +1,5 @@
 -- Why a join says that pages are damaged.
-use Rattle.std.specs.Prelude.{◌≡◌, ℕ, Bool, List, Result, Ok, Err, Contains, ◌⊎◌}
+use Rattle.std.specs.Prelude.{ℕ, Bool, List, Result, Ok, Err, Contains, ◌⊎◌}
 use Rattle.metric_laws.specs.Objects.{Object}
 use Rattle.page_laws.specs.declared.errors.TreeError.{TreeError}
 use Rattle.page_laws.specs.declared.errors.TreeError.TheVariants as tree

@@ -1,5 +1,5 @@
 -- The entries of a tree with how far they reach, and the pairs that a merge join over one tree tests.
-use Rattle.std.specs.Prelude.{◌≡◌, ℕ, ◌≤◌, List, [], ◌∷◌, ◌++◌, map, filter, AllPairs}
+use Rattle.std.specs.Prelude.{ℕ, ◌≤◌, List, [], ◌∷◌, ◌++◌, map, filter, AllPairs}
 use Rattle.bptree_node.specs.declared.rows.Entry.{Entry}
 use Rattle.join_window.specs.WindowPairs.{reaches}
 use Rattle.join_window.specs.declared.window.Reaching.{Reaching}
