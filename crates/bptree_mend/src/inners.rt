@@ -20,7 +20,7 @@ use page_laws::{Pages, Rule, TreeError};
 
 /// Stores the branches of two inner nodes that are neighbours, in their order; the first `own` of them
 /// were those of page `left`. If one node has room for all, that page gets them, and page `right` is
-/// given back. Else each page gets a half. The branches are 7 to 20.
+/// given back. Else each page gets a half. The branches are 2 to 20.
 ///
 /// Damaged comes only for a branch whose corners are those of no box, with the page that it was on.
 pub fn mend_inners<P: Pages, S: Summary, F: Boxes<S>>(
@@ -35,7 +35,7 @@ pub fn mend_inners<P: Pages, S: Summary, F: Boxes<S>>(
     requires right { IsTrue (is_live (P.in_pool pages.old) (P.free pages.old) right) }
     requires open { IsTrue (P.is_open pages.old) }
     requires put { length (P.put_pages pages.old) + 2 ≤ CHANGE_LIMIT }
-    requires enough { LEAST_BRANCHES ≤ length branches.now }
+    requires some { 2 ≤ length branches.now }
     requires few { length branches.now < MOST_BRANCHES + LEAST_BRANCHES }
     requires own { (1 ≤ own) × (own ≤ length branches.now) }
     ensures mends { Mends Inner (IsInnerPart S.joined (F.branch_box boxes.now)) LEAST_BRANCHES MOST_BRANCHES left right branches.now

@@ -20,7 +20,7 @@ use page_laws::{Pages, Rule, TreeError};
 
 /// Stores the entries of two leaves that are neighbours, in their order; the first `own` of them were
 /// those of page `left`. If one leaf has room for all, that page gets them, and page `right` is given
-/// back. Else each page gets a half. The entries are 15 to 43.
+/// back. Else each page gets a half. The entries are 1 to 44.
 ///
 /// Damaged comes only for an entry whose key is none of the tree, with the page that it was on.
 pub fn mend_leaves<P: Pages, S: Summary, F: Boxes<S>>(
@@ -35,7 +35,7 @@ pub fn mend_leaves<P: Pages, S: Summary, F: Boxes<S>>(
     requires right { IsTrue (is_live (P.in_pool pages.old) (P.free pages.old) right) }
     requires open { IsTrue (P.is_open pages.old) }
     requires put { length (P.put_pages pages.old) + 2 ≤ CHANGE_LIMIT }
-    requires enough { LEAST_ENTRIES ≤ length entries.now }
+    requires some { 1 ≤ length entries.now }
     requires few { length entries.now < MOST_ENTRIES + LEAST_ENTRIES }
     requires own { (1 ≤ own) × (own ≤ length entries.now) }
     ensures mends { Mends Leaf (IsLeafPart S.joined (F.entry_box boxes.now)) LEAST_ENTRIES MOST_ENTRIES left right entries.now

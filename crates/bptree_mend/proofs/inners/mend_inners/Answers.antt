@@ -12,7 +12,7 @@ use Rattle.bptree_mend.proofs.inners.mend_inners.Goals as goal
 
 pub returns-in_default-clause-sound : goal.returns-in_default-clause-sound
 returns-in_default-clause-sound g c = λ all.
-    absurd (summary-some g.S.Summary.joined (λ (b : Branch). g.F.Boxes.branch_box c.args.boxes.now b.low b.high) c.args.branches.now (omega (arith, c.requires.enough)) all c.in_default.ensures.part)
+    absurd (summary-some g.S.Summary.joined (λ (b : Branch). g.F.Boxes.branch_box c.args.boxes.now b.low b.high) c.args.branches.now (omega (arith, c.requires.some)) all c.in_default.ensures.part)
 
 pub returns-then-branches-le-MOST_BRANCHES-clause-mends : goal.returns-then-branches-le-MOST_BRANCHES-clause-mends
 returns-then-branches-le-MOST_BRANCHES-clause-mends g c =

@@ -12,7 +12,7 @@ use Rattle.bptree_mend.proofs.leaves.mend_leaves.Goals as goal
 
 pub returns-in_default-clause-sound : goal.returns-in_default-clause-sound
 returns-in_default-clause-sound g c = λ all.
-    absurd (summary-some g.S.Summary.joined (g.F.Boxes.entry_box c.args.boxes.now) c.args.entries.now (omega (arith, c.requires.enough)) all c.in_default.ensures.part)
+    absurd (summary-some g.S.Summary.joined (g.F.Boxes.entry_box c.args.boxes.now) c.args.entries.now (omega (arith, c.requires.some)) all c.in_default.ensures.part)
 
 pub returns-then-entries-le-MOST_ENTRIES-clause-mends : goal.returns-then-entries-le-MOST_ENTRIES-clause-mends
 returns-then-entries-le-MOST_ENTRIES-clause-mends g c =
